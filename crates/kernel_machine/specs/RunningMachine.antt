@@ -1,4 +1,4 @@
-pub mod Stands
+pub mod RepresentedKernels
 pub mod Leaves
 pub mod Machine
 pub mod Runs

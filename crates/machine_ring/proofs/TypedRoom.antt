@@ -4,11 +4,11 @@ use Rattle.std.specs.Prelude.{is_none, nat_lt, slice_get}
 use Rattle.std.proofs.lemmas.Bool.{ltb-false, ltb-true}
 use Rattle.std.proofs.lemmas.Option.{slice_get-get_or, slice_get_past}
 use Rattle.kernel_machine.specs.declared.running_machine.parts.Parts.{Parts as KernelParts}
-use Rattle.tripos_machine.specs.State.{StandsFull, State}
+use Rattle.tripos_machine.specs.State.{RepresentsFullState, State}
 use Rattle.tripos_machine.specs.State.State.{Bare, Full}
 use Rattle.machine_ring.specs.Rounds.{has_room}
 
-pub room-is : (p : KernelParts) (s : State) → StandsFull p s → is_none (slice_get p.tty 127) ≡ has_room s
+pub room-is : (p : KernelParts) (s : State) → RepresentsFullState p s → is_none (slice_get p.tty 127) ≡ has_room s
 room-is p (Bare m) stands = absurd stands
 room-is p (Full k) stands = ap (λ l. is_none (slice_get l 127)) stands.type_ahead ∙ past k.type_ahead
   where

@@ -81,24 +81,24 @@ fixed_form (Fixed bytes) line h e = ap (λ (l : List ℕ). Fixed l) (sym h)
 -- ---- which forms stand where
 
 -- lines of this shape state something
-abbrev pub StandsAsEntry : Form → Type 0
-StandsAsEntry Store = ⊥
-StandsAsEntry Tick = ⊥
-StandsAsEntry (Fixed bytes) = ⊥
-StandsAsEntry _ = Unit {0}
+abbrev pub IsEntryForm : Form → Type 0
+IsEntryForm Store = ⊥
+IsEntryForm Tick = ⊥
+IsEntryForm (Fixed bytes) = ⊥
+IsEntryForm _ = Unit {0}
 
 -- lines of this shape may stand at the place
-abbrev pub Stands : Place → Form → Type 0
-Stands AtStore Store = Unit {0}
-Stands AtMachine Tick = Unit {0}
-Stands AtCode Go = Unit {0}
-Stands AtResident form = StandsAsEntry form
-Stands AtDebug form = StandsAsEntry form
-Stands AtEntry form = StandsAsEntry form
-Stands AtText form = StandsAsEntry form
-Stands _ _ = ⊥
+abbrev pub MayComeAt : Place → Form → Type 0
+MayComeAt AtStore Store = Unit {0}
+MayComeAt AtMachine Tick = Unit {0}
+MayComeAt AtCode Go = Unit {0}
+MayComeAt AtResident form = IsEntryForm form
+MayComeAt AtDebug form = IsEntryForm form
+MayComeAt AtEntry form = IsEntryForm form
+MayComeAt AtText form = IsEntryForm form
+MayComeAt _ _ = ⊥
 
-pub stands_entry : (p : Place) (form : Form) → MayHaveEntry p → Stands p form → StandsAsEntry form
+pub stands_entry : (p : Place) (form : Form) → MayHaveEntry p → MayComeAt p form → IsEntryForm form
 stands_entry AtResident form a h = h
 stands_entry AtDebug form a h = h
 stands_entry AtEntry form a h = h
@@ -109,7 +109,7 @@ stands_entry AtMachine form a h = absurd a
 stands_entry AtCode form a h = absurd a
 stands_entry AtEnd form a h = absurd a
 
-entry_stands : (p : Place) (form : Form) → MayHaveEntry p → StandsAsEntry form → Stands p form
+entry_stands : (p : Place) (form : Form) → MayHaveEntry p → IsEntryForm form → MayComeAt p form
 entry_stands AtResident form a h = h
 entry_stands AtDebug form a h = h
 entry_stands AtEntry form a h = h
@@ -121,7 +121,7 @@ entry_stands AtCode form a h = absurd a
 entry_stands AtEnd form a h = absurd a
 
 -- no line without a number or a name is among them
-not_fixed : (p : Place) → ¬ Stands p (Fixed [])
+not_fixed : (p : Place) → ¬ MayComeAt p (Fixed [])
 not_fixed AtResident h = h
 not_fixed AtDebug h = h
 not_fixed AtEntry h = h
@@ -133,10 +133,10 @@ not_fixed AtCode h = h
 not_fixed AtEnd h = h
 
 abbrev IsKindAt : Place → List ℕ → Type 0
-IsKindAt p line = (kind line ≡ Fixed []) ⊎ Stands p (kind line)
+IsKindAt p line = (kind line ≡ Fixed []) ⊎ MayComeAt p (kind line)
 
 -- a statement stands at each place for entries
-stands_statement : (p : Place) (x : Statement) → MayHaveEntry p → Stands p (shape (form_of x))
+stands_statement : (p : Place) (x : Statement) → MayHaveEntry p → MayComeAt p (shape (form_of x))
 stands_statement p (FileOf name) a = entry_stands p File a tt
 stands_statement p (TaskOf id pri stack names) a = entry_stands p (Task 0) a tt
 stands_statement p (AtOf k text) a = entry_stands p At a tt
@@ -147,15 +147,15 @@ stands_statement p (GoOf steps) a = entry_stands p Go a tt
 entry_kind : (p : Place) (s : Session) (n : ℕ) (line : List ℕ) (e : Draft) → MayHaveEntry p → entry_step s n line ≡ Ok e → IsKindAt p line
 entry_kind p s n line e a h =
     let x = entry_step-ok s n line e h in
-    inr (subst (Stands p) (sym (kind-states x.statement line x.states)) (stands_statement p x.statement a))
+    inr (subst (MayComeAt p) (sym (kind-states x.statement line x.states)) (stands_statement p x.statement a))
 
 word_kind : (p : Place) (line word : List ℕ) → kind word ≡ Fixed [] → bytes_eq line word ≡ true → IsKindAt p line
 word_kind p line word k t = inl (ap kind ((bytes_eq-Decides line word).0 t) ∙ k)
 
-number_kind : (p : Place) (word : List ℕ) (k : Form) (test : ℕ → Bool) (n v : ℕ) (line : List ℕ) → ((digits : List ℕ) → kind (word ++ digits) ≡ k) → Stands p k → number_line word test n line ≡ Ok v → IsKindAt p line
+number_kind : (p : Place) (word : List ℕ) (k : Form) (test : ℕ → Bool) (n v : ℕ) (line : List ℕ) → ((digits : List ℕ) → kind (word ++ digits) ≡ k) → MayComeAt p k → number_line word test n line ≡ Ok v → IsKindAt p line
 number_kind p word k test n v line is stands h =
     let g = number_line-ok word test n line v h in
-    inr (subst (Stands p) (sym (ap kind g.0.1 ∙ is g.0.0)) stands)
+    inr (subst (MayComeAt p) (sym (ap kind g.0.1 ∙ is g.0.0)) stands)
 
 colon_kind : (p : Place) (line rest : List ℕ) → after_word (codes ":") line ≡ Some rest → IsKindAt p line
 colon_kind p line rest w = inl (ap kind (after_word-ok (codes ":") line rest w))
@@ -202,14 +202,14 @@ accepted_kind AtText s n line e h = text_kind s n line e (after_word (codes ":")
 accepted_kind AtEnd s n line e h = cc h
 
 -- so a form that has an accepted line has that line alone, or stands there
-accepted_form : (p : Place) (s : Session) (n : ℕ) (form : Form) (line : List ℕ) (e : Draft) → HasForm form line → step (draft p s) n line ≡ Ok e → (form ≡ Fixed line) ⊎ Stands p (shape form)
+accepted_form : (p : Place) (s : Session) (n : ℕ) (form : Form) (line : List ℕ) (e : Draft) → HasForm form line → step (draft p s) n line ≡ Ok e → (form ≡ Fixed line) ⊎ MayComeAt p (shape form)
 accepted_form p s n form line e has h =
     elim (kind-form form line has) [
       | inl fixed ↦ inl fixed
       | inr is ↦
           elim (accepted_kind p s n line e h) [
             | inl other ↦ inl (fixed_form form line has (sym is ∙ other))
-            | inr stands ↦ inr (subst (Stands p) is stands)
+            | inr stands ↦ inr (subst (MayComeAt p) is stands)
           ]
     ]
 
@@ -227,7 +227,7 @@ IsWrong d n line r =
 
 -- a line that has none of the forms that stand there
 module _ (p : Place) (s : Session) (n : ℕ) (line : List ℕ) (r : Refusal) (refused : step (draft p s) n line ≡ Err r) where
-  pub wrong_form : refusal n 1 ≡ r → ((form : Form) → Stands p (shape form) → Accepts (draft p s) n form → ¬ HasForm form line) → IsWrong (draft p s) n line r
+  pub wrong_form : refusal n 1 ≡ r → ((form : Form) → MayComeAt p (shape form) → Accepts (draft p s) n form → ¬ HasForm form line) → IsWrong (draft p s) n line r
   wrong_form code lacks = inl (
     code,
     λ form accepts has. elim (accepted_form p s n form accepts.0 accepts.2 accepts.1 accepts.3) [
@@ -243,6 +243,6 @@ module _ (p : Place) (s : Session) (n : ℕ) (line : List ℕ) (r : Refusal) (re
   wrong_colon rest w code =
       let fixed : kind line ≡ Fixed [] = ap kind (after_word-ok (codes ":") line rest w) in
       wrong_form code (λ form stands accepts has. elim (kind-form form line has) [
-        | inl same ↦ not_fixed p (subst (λ (f : Form). Stands p (shape f)) same stands)
-        | inr is ↦ not_fixed p (subst (Stands p) (sym is ∙ fixed) stands)
+        | inl same ↦ not_fixed p (subst (λ (f : Form). MayComeAt p (shape f)) same stands)
+        | inr is ↦ not_fixed p (subst (MayComeAt p) (sym is ∙ fixed) stands)
       ])

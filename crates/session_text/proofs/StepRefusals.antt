@@ -31,11 +31,11 @@ use Rattle.session_text.proofs.Complete.{MayHaveEntry, enters, statement_again}
 use Rattle.session_text.proofs.Sound.{entry_step-ok, fits_by}
 use Rattle.session_text.proofs.StatementLines.{statement_of-again, statement_of-ok}
 use Rattle.session_text.proofs.StatementTexts.{IsBytes-one, IsPrintable, states_text}
-use Rattle.session_text.proofs.LineRefusals.{Accepts, IsWrong, Stands, StandsAsEntry, shape, stands_entry, wrong_colon, wrong_form}
+use Rattle.session_text.proofs.LineRefusals.{Accepts, IsEntryForm, IsWrong, MayComeAt, shape, stands_entry, wrong_colon, wrong_form}
 
 -- ---- numbers after a word
 
-no_store : (form : Form) (line : List ℕ) → Stands AtStore (shape form) → HasForm form line → ((v : ℕ) → ¬ IsNumberLine (codes "STORE ") v line) → ⊥
+no_store : (form : Form) (line : List ℕ) → MayComeAt AtStore (shape form) → HasForm form line → ((v : ℕ) → ¬ IsNumberLine (codes "STORE ") v line) → ⊥
 no_store Store line stands has none = none has.0 has.1
 no_store Tick line stands has none = stands
 no_store File line stands has none = stands
@@ -45,7 +45,7 @@ no_store Key line stands has none = stands
 no_store Go line stands has none = stands
 no_store (Fixed bytes) line stands has none = stands
 
-no_tick : (form : Form) (line : List ℕ) → Stands AtMachine (shape form) → HasForm form line → ((v : ℕ) → ¬ IsNumberLine (codes "TICK ") v line) → ⊥
+no_tick : (form : Form) (line : List ℕ) → MayComeAt AtMachine (shape form) → HasForm form line → ((v : ℕ) → ¬ IsNumberLine (codes "TICK ") v line) → ⊥
 no_tick Tick line stands has none = none has.0 has.1
 no_tick Store line stands has none = stands
 no_tick File line stands has none = stands
@@ -62,7 +62,7 @@ go_number (AtOf k text) line h e = cc e
 go_number (KeyOf k byte) line h e = cc e
 go_number (GoOf steps) line h e = (steps, h)
 
-no_go : (form : Form) (line : List ℕ) → Stands AtCode (shape form) → HasForm form line → ((v : ℕ) → ¬ IsNumberLine (codes "GO ") v line) → ⊥
+no_go : (form : Form) (line : List ℕ) → MayComeAt AtCode (shape form) → HasForm form line → ((v : ℕ) → ¬ IsNumberLine (codes "GO ") v line) → ⊥
 no_go Go line stands has none = let g = go_number has.0 line has.1 has.2 in none g.0 g.1
 no_go Store line stands has none = stands
 no_go Tick line stands has none = stands
@@ -106,7 +106,7 @@ module _ (p : Place) (s : Session) (n : ℕ) (a : MayHaveEntry p) where
       = names_fit-form s.version has.0 ∙ ap (form_fits s.version) (has.2 ∙ sym has_l.2) ∙ sym (names_fit-form s.version has_l.0) in
       none_fits (names_fit s.version has.0) has.0 (sym (statement_of-again s.version line has.0 has.1) ∙ none) (same ∙ f)
 
-  entry_lacks : (line : List ℕ) → statement_of s.version line ≡ None → (form : Form) → StandsAsEntry (shape form) → Accepts (draft p s) n form → ¬ HasForm form line
+  entry_lacks : (line : List ℕ) → statement_of s.version line ≡ None → (form : Form) → IsEntryForm (shape form) → Accepts (draft p s) n form → ¬ HasForm form line
   entry_lacks line none Store stands acc has = stands
   entry_lacks line none Tick stands acc has = stands
   entry_lacks line none File stands acc has = statement_lacks line File none has acc.0 acc.1 acc.2 acc.3

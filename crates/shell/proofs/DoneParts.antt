@@ -16,7 +16,7 @@ use Rattle.kernel_model.specs.KernelRecord.Standing.{Standing, left_with, standi
 use Rattle.kernel_boot.proofs.StandingKernels.{left-is}
 use Rattle.resident_tasks.specs.ResidentRequests.Requests.{RunsResident}
 use Rattle.shell.specs.ShellPrograms.ShellPacket.{CanPost, post_events, posted, request_words, requested}
-use Rattle.shell.specs.ShellPrograms.Standings.{HasStanding}
+use Rattle.shell.specs.ShellPrograms.Standings.{RepresentsStanding}
 use Rattle.shell.proofs.ShellPrograms.SentRules.{posted-runs}
 use Rattle.kernel_model.specs.declared.kernel_record.numbers.TheConstants.{CONSOLE}
 use Rattle.shell.specs.DoneParts.{IsDone, IsReady, Start}
@@ -27,12 +27,12 @@ use Rattle.shell.proofs.RunningShell.{GoesOn, posted-running}
 -- ---- the store
 
 -- its words are those of the standing
-pub standing-is : {t : List ℕ} {tells : List ℕ → Type 0} {room : ℕ} {k : Standing} → HasStanding t tells room k → standing t k.lists ≡ k
+pub standing-is : {t : List ℕ} {tells : List ℕ → Type 0} {room : ℕ} {k : Standing} → RepresentsStanding t tells room k → standing t k.lists ≡ k
 standing-is {k = k} h = λ i. record { words = h.words i; lists = k.lists }
 
 -- what a change leaves of a store that stands
-pub left-stands : {t : List ℕ} {tells : List ℕ → Type 0} {room : ℕ} {k : Standing} → HasStanding t tells room k → (u : List ℕ) (told : List ℕ → Type 0) (after : ℕ) (l : Lists) (plain : Pairs)
-    → IsChanged t u l plain → Knows told l → after ≡ room → HasStanding u told after (left_with k.words l plain)
+pub left-stands : {t : List ℕ} {tells : List ℕ → Type 0} {room : ℕ} {k : Standing} → RepresentsStanding t tells room k → (u : List ℕ) (told : List ℕ → Type 0) (after : ℕ) (l : Lists) (plain : Pairs)
+    → IsChanged t u l plain → Knows told l → after ≡ room → RepresentsStanding u told after (left_with k.words l plain)
 left-stands {t = t} {k = k} h u told after l plain x knows room_is =
     record {
       words = left-is t u l plain x ∙ ap (λ w. written (owned l) (written plain w)) h.words;
@@ -95,7 +95,7 @@ done-disc h after e same =
 
 -- the store stands otherwise, and these events were noted
 pub done-then : {b : Start} {t : List ℕ} {tells : List ℕ → Type 0} {room : ℕ} {now : Outside} {sh : Shell} {d : Disc} {fin : Bool} {x : ShellTurn}
-    → IsDone b t tells room now sh d fin x → {u : List ℕ} {told : List ℕ → Type 0} {after : ℕ} {k : Standing} → HasStanding u told after k → after ≡ room
+    → IsDone b t tells room now sh d fin x → {u : List ℕ} {told : List ℕ → Type 0} {after : ℕ} {k : Standing} → RepresentsStanding u told after k → after ≡ room
     → (noted : Option (List KernelEvent)) (failed : Bool) (events : List KernelEvent) → NotesAll now.noted noted now.failed failed events
     → RunsResident k.lists → k.lists.running ≡ x.standing.lists.running → IsDone b u told after (outside now.shown noted failed) sh d fin (and_then k events x)
 done-then {b = b} {now = now} {x = x} h stands room_is noted failed events notes runs still =
@@ -113,7 +113,7 @@ done-then {b = b} {now = now} {x = x} h stands room_is noted failed events notes
 
 -- and nothing was noted
 pub done-quietly : {b : Start} {t : List ℕ} {tells : List ℕ → Type 0} {room : ℕ} {now : Outside} {sh : Shell} {d : Disc} {fin : Bool} {x : ShellTurn}
-    → IsDone b t tells room now sh d fin x → {u : List ℕ} {told : List ℕ → Type 0} {after : ℕ} {k : Standing} → HasStanding u told after k → after ≡ room
+    → IsDone b t tells room now sh d fin x → {u : List ℕ} {told : List ℕ → Type 0} {after : ℕ} {k : Standing} → RepresentsStanding u told after k → after ≡ room
     → RunsResident k.lists → k.lists.running ≡ x.standing.lists.running → IsDone b u told after now sh d fin (and_then k [] x)
 done-quietly {now = now} h stands room_is runs still = done-then h stands room_is now.noted now.failed [] (notes-none now.noted now.failed) runs still
 
@@ -138,19 +138,19 @@ pub console-there : {b : Start} {t : List ℕ} {tells : List ℕ → Type 0} {ro
 console-there h = (let v = h.done.stands.keeper.lists.valid.tasks in v.console ∙ sym v.shell ∙ h.packet.shell)
 
 pub done-posted : {b : Start} {t : List ℕ} {tells : List ℕ → Type 0} {room : ℕ} {now : Outside} {sh : Shell} {d : Disc} {x : ShellTurn}
-    → IsReady b t tells room now sh d x → (to : ℕ) → to ≤ 63 → {u : List ℕ} {told : List ℕ → Type 0} {after : ℕ} → HasStanding u told after (posted to (standing t x.standing.lists)) → after ≡ room
+    → IsReady b t tells room now sh d x → (to : ℕ) → to ≤ 63 → {u : List ℕ} {told : List ℕ → Type 0} {after : ℕ} → RepresentsStanding u told after (posted to (standing t x.standing.lists)) → after ≡ room
     → (noted : Option (List KernelEvent)) (failed : Bool) → NotesAll now.noted noted now.failed failed (post_events to)
     → IsDone b u told after (outside now.shown noted failed) sh d false (and_then (posted to x.standing) (post_events to) x)
 done-posted {x = x} h to low {u = u} {told = told} {after = after} stands room_is noted failed notes =
-    done-then h.done (subst (λ k. HasStanding u told after (posted to k)) (standing-is h.done.stands) stands) room_is noted failed (post_events to) notes
+    done-then h.done (subst (λ k. RepresentsStanding u told after (posted to k)) (standing-is h.done.stands) stands) room_is noted failed (post_events to) notes
     (posted-runs to x.standing low h.done.runs) (posted-running to x.standing low)
 
 pub done-sent : {b : Start} {t : List ℕ} {tells : List ℕ → Type 0} {room : ℕ} {now : Outside} {sh : Shell} {d : Disc} {x : ShellTurn}
-    → IsReady b t tells room now sh d x → (to kind : ℕ) → to ≤ 63 → {u : List ℕ} {told : List ℕ → Type 0} {after : ℕ} → HasStanding u told after (requested to kind (standing t x.standing.lists)) → after ≡ room
+    → IsReady b t tells room now sh d x → (to kind : ℕ) → to ≤ 63 → {u : List ℕ} {told : List ℕ → Type 0} {after : ℕ} → RepresentsStanding u told after (requested to kind (standing t x.standing.lists)) → after ≡ room
     → (noted : Option (List KernelEvent)) (failed : Bool) → NotesAll now.noted noted now.failed failed (post_events to)
     → IsDone b u told after (outside now.shown noted failed) sh d false (with_packet_sent to kind x)
 done-sent {x = x} h to kind low {u = u} {told = told} {after = after} stands room_is noted failed notes =
-    done-then h.done (subst (λ k. HasStanding u told after (requested to kind k)) (standing-is h.done.stands) stands) room_is noted failed (post_events to) notes
+    done-then h.done (subst (λ k. RepresentsStanding u told after (requested to kind k)) (standing-is h.done.stands) stands) room_is noted failed (post_events to) notes
     (posted-runs to (standing (written (request_words kind) x.standing.words) x.standing.lists) low h.done.runs) (posted-running to (standing (written (request_words kind) x.standing.words) x.standing.lists) low)
 
 -- ---- a call about a task

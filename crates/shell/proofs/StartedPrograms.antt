@@ -11,7 +11,7 @@ use Rattle.kernel_calls.specs.CallAnswers.Outside.{Outside}
 use Rattle.kernel_boot.specs.BegunTask.{with_begun}
 use Rattle.kernel_model.specs.KernelRecord.Standing.{standing}
 use Rattle.shell.specs.ShellPrograms.StartedProgram.{IsStarted, Started, begun, start_program}
-use Rattle.shell.specs.ShellPrograms.Standings.{HasStanding}
+use Rattle.shell.specs.ShellPrograms.Standings.{RepresentsStanding}
 use Rattle.shell.specs.declared.shell_programs.programs.Priority.{Priority}
 use Rattle.shell.proofs.ShellPrograms.KeptRules.{begun-packets, begun-residents, begun-runs, started-packets, started-residents, started-runs}
 use Rattle.shell.proofs.ShellPrograms.KeptSteps.{started-there}
@@ -57,8 +57,8 @@ started-low x name rest pri id e = omega (arith, (started-there x.disc name rest
 pub ready-begun : {b : Start} {t : List ℕ} {tells : List ℕ → Type 0} {room : ℕ} {now : Outside} {sh : Shell} {d : Disc} {x : ShellTurn}
     → IsReady b t tells room now sh d x → (id : ℕ) (u : List ℕ) → HasGuest x.standing.lists id → IsChanged t u (with_begun t id x.standing.lists) [] → IsReady b u tells room now sh d (with_program_begun id x)
 ready-begun {t = t} {tells = tells} {room = room} {x = x} r id u guest y =
-    let stands : HasStanding u tells room (begun id x.standing) =
-    subst (λ k. HasStanding u tells room (begun id k)) (standing-is r.done.stands) (begun-standing t u tells room id x.standing.lists r.done.stands.keeper guest y)
+    let stands : RepresentsStanding u tells room (begun id x.standing) =
+    subst (λ k. RepresentsStanding u tells room (begun id k)) (standing-is r.done.stands) (begun-standing t u tells room id x.standing.lists r.done.stands.keeper guest y)
     in
     let kept = begun-residents id x.standing in
     record {

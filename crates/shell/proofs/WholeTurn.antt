@@ -13,7 +13,7 @@ use Rattle.kernel_model.specs.KernelRecord.Standing.{left_with}
 use Rattle.resident_tasks.specs.ResidentRequests.Answers.{IsFinished, finished}
 use Rattle.resident_tasks.specs.ResidentRequests.Requests.{work}
 use Rattle.shell.specs.ShellPrograms.ClearedTasks.{cleared}
-use Rattle.shell.specs.ShellPrograms.Standings.{HasStanding}
+use Rattle.shell.specs.ShellPrograms.Standings.{RepresentsStanding}
 use Rattle.shell.proofs.ShellPrograms.KeptRules.{cleared-residents, cleared-runs}
 use Rattle.shell.specs.DoneParts.{IsDone, IsShellTurn, Start}
 use Rattle.shell.specs.ShellTurn.{RunsShell, all_parts, ended, first_treated, shell_turn, with_cleared}
@@ -40,7 +40,7 @@ done-begun s tells room o l sh d k r =
 
 -- the shell has cleared up
 pub done-cleared : {b : Start} {t : List ℕ} {tells : List ℕ → Type 0} {room : ℕ} {now : Outside} {sh : Shell} {d : Disc} {fin : Bool} {x : ShellTurn}
-    → IsDone b t tells room now sh d fin x → (u : List ℕ) (told : List ℕ → Type 0) (after : ℕ) → HasStanding u told after (cleared x.standing) → after ≡ room
+    → IsDone b t tells room now sh d fin x → (u : List ℕ) (told : List ℕ → Type 0) (after : ℕ) → RepresentsStanding u told after (cleared x.standing) → after ≡ room
     → IsDone b u told after now sh d fin (with_cleared x)
 done-cleared {x = x} h u told after stands room_is =
     done-quietly h stands room_is (cleared-runs x.standing h.runs) (ap (λ (l : Lists). l.running) (cleared-residents x.standing).rest)
@@ -59,7 +59,7 @@ turn-ended {b = b} {tells = tells} {room = room} {now = now} {sh = sh} {d = d} {
     rest : ShellTurn
     rest = and_then (left_with x.standing.words (finished x.standing.lists) []) [] x
 
-    stands : HasStanding u tells room rest.standing
+    stands : RepresentsStanding u tells room rest.standing
     stands = left-stands h.stands u tells room (finished x.standing.lists) [] y.lists (knows-same tells x.standing.lists (finished x.standing.lists) y.same h.stands.keeper.knows) refl
 
     on : (f : Bool) → false ≡ f → IsShellTurn u tells room b.outside now sh d false (cond f x rest)

@@ -6,7 +6,7 @@ use Rattle.ram_disc.specs.Disc.{Disc}
 use Rattle.kernel_calls.specs.CallAnswers.Outside.{Outside}
 use Rattle.resident_tasks.specs.ResidentRequests.Requests.{RunsResident}
 use Rattle.shell.specs.ShellPrograms.ShellPacket.{HasPacket}
-use Rattle.shell.specs.ShellPrograms.Standings.{HasStanding}
+use Rattle.shell.specs.ShellPrograms.Standings.{RepresentsStanding}
 use Rattle.kernel_model.specs.declared.kernel_record.numbers.TheConstants.{SHELL}
 use Rattle.shell.specs.TurnParts.{ShellTurn}
 
@@ -21,7 +21,7 @@ pub record Start : Type 0 where
 -- shell still runs.
 pub record IsDone (b : Start) (t : List ℕ) (tells : List ℕ → Type 0) (most : ℕ) (now : Outside) (sh : Shell) (d : Disc) (ends : Bool) (x : ShellTurn) : Type 0 where
   -- the store stands as the parts leave it, and the keeper knows its words
-  pub stands : HasStanding t tells most x.standing
+  pub stands : RepresentsStanding t tells most x.standing
   -- the keeper has room for as many words as before
   pub room : most ≡ b.room
   -- the bytes went to the console
@@ -49,7 +49,7 @@ pub record IsReady (b : Start) (t : List ℕ) (tells : List ℕ → Type 0) (mos
 -- what a whole turn has left, and whether the machine is finished
 pub record IsShellTurn (t : List ℕ) (tells : List ℕ → Type 0) (most : ℕ) (old now : Outside) (sh : Shell) (d : Disc) (ends : Bool) (x : ShellTurn) : Type 0 where
   -- the store stands as the turn leaves it, and the keeper knows its words
-  pub stands : HasStanding t tells most x.standing
+  pub stands : RepresentsStanding t tells most x.standing
   -- the bytes went to the console
   pub bytes : now.shown ≡ old.shown ++ x.bytes
   -- the events went to the log

@@ -1,7 +1,7 @@
 -- A machine with a kernel, of which the lists are read off its store.
 use Rattle.std.proofs.Common.{◌≡◌, ◌==◌, ℕ, List, cond, is_some, sym, ap, subst}
 use Rattle.kernel_machine.specs.declared.running_machine.parts.Parts.{Parts}
-use Rattle.tripos_machine.specs.State.{StandsFull, State}
+use Rattle.tripos_machine.specs.State.{RepresentsFullState, State}
 use Rattle.tripos_machine.specs.State.State.{Bare, Full}
 use Rattle.debugger.proofs.KernelParts.{held-lists}
 use Rattle.kernel_model.specs.KernelRecord.Image.{image}
@@ -15,18 +15,18 @@ use Rattle.kernel_model.proofs.KernelRecord.WalkedLists.{can-walk}
 use Rattle.state_text.specs.Runner.{has_keys, idle_line, runner_text, running_line}
 
 -- the lists in the store of the parts can be walked
-pub walks : (p : Parts) (s : State) → StandsFull p s → CanWalkLists p.store
+pub walks : (p : Parts) (s : State) → RepresentsFullState p s → CanWalkLists p.store
 walks p s x = let held = held-lists p s x in can-walk p.store held.0 held.1
 
 -- what the store and the lists in it say of a kernel, its own words and lists say
-pub on-words : (p : Parts) (s : State) (P : List ℕ → Lists → State → Type 0) → StandsFull p s → ((k : Kernel) → P (image k) k.lists (Full k)) → P p.store (lists_in p.store) s
+pub on-words : (p : Parts) (s : State) (P : List ℕ → Lists → State → Type 0) → RepresentsFullState p s → ((k : Kernel) → P (image k) k.lists (Full k)) → P p.store (lists_in p.store) s
 on-words p (Bare m) P x each = absurd x
 on-words p (Full k) P x each =
     let h = x.keeper.lists in
     subst (λ w. P w (lists_in p.store) (Full k)) (sym (image-list p.store k x.image)) (subst (λ l. P (image k) l (Full k)) (sym (lists-back p.store k.lists h.valid h.size h.holds)) (each k))
 
 -- the same of what the lists alone say
-pub on-lists : (p : Parts) (s : State) (P : Lists → State → Type 0) → StandsFull p s → ((k : Kernel) → P k.lists (Full k)) → P (lists_in p.store) s
+pub on-lists : (p : Parts) (s : State) (P : Lists → State → Type 0) → RepresentsFullState p s → ((k : Kernel) → P k.lists (Full k)) → P (lists_in p.store) s
 on-lists p s P x each = on-words p s (λ w. P) x each
 
 -- where nobody runs, that and the reason are said

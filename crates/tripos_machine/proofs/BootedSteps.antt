@@ -10,7 +10,7 @@ use Rattle.bare_machine.proofs.CodeLines.{with_lines-length}
 use Rattle.kernel_model.specs.KernelRecord.Kernel.{Kernel}
 use Rattle.kernel_boot.specs.declared.refusals.BootRefusal.{BootRefusal}
 use Rattle.kernel_machine.specs.KernelSteps.Stepped.{Stepped}
-use Rattle.kernel_machine.specs.RunningMachine.Stands.{Stands}
+use Rattle.kernel_machine.specs.RunningMachine.RepresentedKernels.{RepresentsKernel}
 use Rattle.kernel_machine.specs.declared.running_machine.parts.Parts.{Parts}
 use Rattle.kernel_machine.proofs.KernelSteps.StepKept.{dispatch-same}
 use Rattle.kernel_machine.specs.MachineBoot.Boot.{HasKernel, boot, first_kernel, started, with_lines}
@@ -29,7 +29,7 @@ booted-steps s h x is = on (with_lines s.lines (first_kernel s)) refl is
     on (Err refusal) e f = cc
 
 -- parts of which no key has come have the keys that are to come
-pub all-to-come : (p : Parts) (k : Kernel) → Stands p k → p.keys.come ≡ 0 → p.keys.keys ≡ k.keys
+pub all-to-come : (p : Parts) (k : Kernel) → RepresentsKernel p k → p.keys.come ≡ 0 → p.keys.keys ≡ k.keys
 all-to-come p k h e = subst (λ n. drop n p.keys.keys ≡ k.keys) e h.keys
 
 -- the two ways of a boot

@@ -8,7 +8,7 @@ use Rattle.kernel_model.specs.KernelRecord.Ranges.{is_store_size, most_steps}
 use Rattle.kernel_model.specs.KernelRecord.ValidKernel.{IsValid}
 use Rattle.kernel_model.specs.declared.kernel_record.stops.Stop.{Stop}
 use Rattle.kernel_machine.specs.RunningMachine.Machine.{with_byte_typed}
-use Rattle.kernel_machine.specs.RunningMachine.Stands.{Stands}
+use Rattle.kernel_machine.specs.RunningMachine.RepresentedKernels.{RepresentsKernel}
 use Rattle.kernel_machine.specs.declared.running_machine.parts.Parts.{Parts as FullParts}
 use Rattle.tripos_machine.specs.declared.parts.Parts.{Parts}
 use Rattle.tripos_machine.specs.declared.parts.Parts.TheVariants.{Bare as BareMachine, Full as FullMachine}
@@ -63,16 +63,16 @@ abbrev pub IsBare : State → Type 0
 IsBare (Bare m) = Unit {0}
 IsBare (Full k) = ⊥
 
--- it is full, and these parts stand for its kernel
-abbrev pub StandsFull : FullParts → State → Type 0
-StandsFull p (Bare m) = ⊥
-StandsFull p (Full k) = Stands p k
+-- it is full, and these parts represent its kernel
+abbrev pub RepresentsFullState : FullParts → State → Type 0
+RepresentsFullState p (Bare m) = ⊥
+RepresentsFullState p (Full k) = RepresentsKernel p k
 
 -- These parts are those of the state. Whether the machine has stopped is no part of them.
-abbrev pub StandFor : Parts → State → Type 0
-StandFor (BareMachine p) (Bare m) = bare_state p m.stop ≡ m
-StandFor (FullMachine p) (Full k) = Stands p k
-StandFor _ _ = ⊥
+abbrev pub RepresentsState : Parts → State → Type 0
+RepresentsState (BareMachine p) (Bare m) = bare_state p m.stop ≡ m
+RepresentsState (FullMachine p) (Full k) = RepresentsKernel p k
+RepresentsState _ _ = ⊥
 
 -- all keys of its script, those that have come too: each the step at which it is due, and its byte; a bare machine has none
 abbrev pub keys_of : Parts → List (ℕ × ℕ)

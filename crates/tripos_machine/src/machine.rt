@@ -4,7 +4,7 @@ ghost use Rattle.kernel_model.specs.KernelRecord.Ranges.{most_steps};
 ghost use Rattle.tripos_machine.specs.Breakpoints.{Avoids, IsPlain, IsPlainStep};
 ghost use Rattle.tripos_machine.specs.Histories.{HasHistory};
 ghost use Rattle.tripos_machine.specs.Quiet.{AreQuiet, IsIdle};
-ghost use Rattle.tripos_machine.specs.State.{IsBare, IsSound, StandFor, StandsFull, State, keys_of, regs_of, running_of, steps_of, stop_of, typed, words_of};
+ghost use Rattle.tripos_machine.specs.State.{IsBare, IsSound, RepresentsFullState, RepresentsState, State, keys_of, regs_of, running_of, steps_of, stop_of, typed, words_of};
 ghost use Rattle.tripos_machine.specs.Step.{boot_events, run, step};
 ghost use Rattle.kernel_model.specs.KernelRecord.LoggedEvents.{LogsAll};
 
@@ -42,8 +42,8 @@ impl Model for Machine {
 impl Machine {
     /// The machine with these parts, which has not stopped, and has no output. Its keys are all those of the script.
     pub fn from_parts(parts: Parts) -> Machine
-        requires { (s : State) × StandFor parts s × IsSound s × (stop_of s ≡ None) }
-        ensures state { (s : State) → StandFor parts s → IsSound s → stop_of s ≡ None
+        requires { (s : State) × RepresentsState parts s × IsSound s × (stop_of s ≡ None) }
+        ensures state { (s : State) → RepresentsState parts s → IsSound s → stop_of s ≡ None
             → result.state ≡ s }
         ensures keys { result.keys ≡ keys_of parts }
         ensures output { result.output ≡ [] }
@@ -57,7 +57,7 @@ impl Machine {
 
     /// Its parts. They are those of its state, which is sound, and the script has all its keys.
     pub fn into_parts(self) -> Parts
-        ensures stand { StandFor result self.state }
+        ensures stand { RepresentsState result self.state }
         ensures sound { IsSound self.state }
         ensures keys { keys_of result ≡ self.keys }
     {
@@ -70,7 +70,8 @@ impl Machine {
 
     /// The parts of a machine with a kernel, lent, with all its keys; `None` exactly for one without, which has no keys.
     pub fn kernel_parts(&self) -> Option<&FullParts>
-        ensures stand { MatchOption result (IsBare self.now.state) (λ parts. StandsFull parts.now self.now.state) }
+        ensures stand { MatchOption result (IsBare self.now.state)
+            (λ parts. RepresentsFullState parts.now self.now.state) }
         ensures sound { IsSound self.now.state }
         ensures keys { MatchOption result (self.now.keys ≡ [])
             (λ parts. parts.now.keys.keys ≡ self.now.keys) }

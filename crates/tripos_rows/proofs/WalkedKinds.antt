@@ -2,9 +2,9 @@
 use Rattle.kernel_model.specs.KernelRecord.KernelRanges.{CanWalkLists}
 use Rattle.kernel_model.proofs.KernelRecord.WalkedLists.{can-walk}
 use Rattle.kernel_machine.specs.declared.running_machine.parts.Parts.{Parts}
-use Rattle.tripos_machine.specs.State.{IsSound, StandsFull, State}
+use Rattle.tripos_machine.specs.State.{IsSound, RepresentsFullState, State}
 use Rattle.tripos_machine.specs.State.State.{Bare, Full}
 
-pub walks : (p : Parts) (s : State) → StandsFull p s → IsSound s → CanWalkLists p.store
+pub walks : (p : Parts) (s : State) → RepresentsFullState p s → IsSound s → CanWalkLists p.store
 walks p (Bare m) stands sound = absurd stands
 walks p (Full k) stands sound = can-walk p.store k.lists (record { valid = sound.lists; size = stands.image.size; holds = stands.image.holds })

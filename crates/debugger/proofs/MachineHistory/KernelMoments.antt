@@ -10,12 +10,12 @@ use Rattle.kernel_model.specs.KernelRecord.ValidKernel.{IsValid}
 use Rattle.kernel_model.specs.WordKinds.ByteMap.{MarksAll}
 use Rattle.kernel_model.specs.WordKinds.Keeper.{IsStoreOf}
 use Rattle.kernel_machine.specs.RunningMachine.Machine.{kernel_of}
-use Rattle.kernel_machine.specs.RunningMachine.Stands.{Stands}
+use Rattle.kernel_machine.specs.RunningMachine.RepresentedKernels.{RepresentsKernel}
 use Rattle.kernel_machine.specs.declared.running_machine.parts.Parts.{Parts}
 use Rattle.kernel_model.proofs.KernelRecord.ImageWords.{image-list}
 use Rattle.kernel_model.proofs.KernelRecord.WalkedLists.{can-walk}
 use Rattle.kernel_machine.proofs.RunningMachine.OneMachine.{one-machine}
-use Rattle.tripos_machine.specs.State.{IsSound, StandsFull, State}
+use Rattle.tripos_machine.specs.State.{IsSound, RepresentsFullState, State}
 use Rattle.tripos_machine.specs.State.State.{Bare, Full}
 use Rattle.debugger.specs.MachineHistory.Moments.{HoldsKernel, IsMomentOf, IsTakenFrom, kernel_in, with_moment}
 use Rattle.debugger.specs.MachineHistory.Pasts.{Files}
@@ -25,7 +25,7 @@ use Rattle.kernel_model.proofs.WordKinds.KnownWords.{store-known}
 
 -- ---- a moment of a machine
 
-module _ (p : Parts) (k : Kernel) (st : Stands p k) (m : KernelMoment) (t : IsTakenFrom p m) where
+module _ (p : Parts) (k : Kernel) (st : RepresentsKernel p k) (m : KernelMoment) (t : IsTakenFrom p m) where
   reads-kernel : k.stop ≡ None → (f : Files) → f ≡ record { disc = k.disc; pipes = k.pipes } → kernel_in p.keys.keys (image k) f m ≡ k
   unfolding kernel_in kernel_of
   reads-kernel goes f is =
@@ -56,7 +56,7 @@ module _ (p : Parts) (k : Kernel) (st : Stands p k) (m : KernelMoment) (t : IsTa
   }
 
 -- of a machine that has a kernel
-pub moment-full : (p : Parts) (s : State) → StandsFull p s → IsSound s → (m : KernelMoment) → IsTakenFrom p m → (keys : List (ℕ × ℕ)) → p.keys.keys ≡ keys → IsMomentOf keys (FullKind m) s
+pub moment-full : (p : Parts) (s : State) → RepresentsFullState p s → IsSound s → (m : KernelMoment) → IsTakenFrom p m → (keys : List (ℕ × ℕ)) → p.keys.keys ≡ keys → IsMomentOf keys (FullKind m) s
 moment-full p (Bare n) st sound m t keys same = absurd st
 moment-full p (Full k) st sound m t keys same = subst (λ l. IsMomentOf l (FullKind m) (Full k)) same (moment-of p k st m t sound)
 
@@ -73,7 +73,7 @@ module _ (keys : List (ℕ × ℕ)) (words : List ℕ) (f : Files) (m : KernelMo
   walked = can-walk words k.lists held-lists
 
   pub stands-back : (p : Parts) → p.keys.keys ≡ keys → (kinds : List Bool) → length kinds ≡ length words → ((known : List ℕ) (l : Lists) → IsStoreOf words known l → MarksAll kinds known)
-      → Stands (record (with_moment m p) { store = words; disc = f.disc; pipes = f.pipes; kinds = kinds }) k
+      → RepresentsKernel (record (with_moment m p) { store = words; disc = f.disc; pipes = f.pipes; kinds = kinds }) k
   unfolding kernel_in
   stands-back p same kinds size marks = record {
     keeper = record { lists = held-lists; knows = λ known same. marks known k.lists (store-known words known k.lists held-lists same); enough = omega (arith, size) };

@@ -4,7 +4,7 @@ use Rattle.std.specs.Prelude.{slice_get}
 use Rattle.std.specs.List.{AllByRecursion}
 use Rattle.circular_buffer.specs.Buffer.{Buffer, buffer}
 use Rattle.debugger.specs.UndoJournal.Journals.{Journal, Past, side_back, words_back}
-use Rattle.tripos_machine.specs.State.{IsBare, IsSound, StandFor, State, keys_of, stop_of, words_of}
+use Rattle.tripos_machine.specs.State.{IsBare, IsSound, RepresentsState, State, keys_of, stop_of, words_of}
 use Rattle.bare_machine.specs.declared.parts.BareParts.{BareParts}
 use Rattle.kernel_model.specs.KernelRecord.KernelRanges.{CanWalkLists}
 use Rattle.kernel_model.specs.KernelRecord.Lists.{Lists}
@@ -123,7 +123,7 @@ pub record IsReturned (h new : Inside) (parts : Parts) (n : ℕ) (now : State) :
   pub history : IsHistory new
   pub past : (view_of new).past ≡ past_back n (view_of h).past
   pub now_is : (view_of new).now ≡ now_of (state_back n (view_of h).past now) h.keys.items
-  pub stands : StandFor parts (state_back n (view_of h).past now)
+  pub stands : RepresentsState parts (state_back n (view_of h).past now)
   pub sound : IsSound (state_back n (view_of h).past now)
   pub goes_on : stop_of (state_back n (view_of h).past now) ≡ None
   pub keys : keys_of parts ≡ h.keys.items
@@ -133,7 +133,7 @@ no-files None m none = refl
 no-files (Some b) m none = cc
 
 -- a machine of a kind has files or not
-without-files : (o : Option (Buffer KeptFiles)) (n : ℕ) (p : BareParts) (now : State) → StandFor (BareMachine p) now → latest n o ≡ files_of now → o ≡ None
+without-files : (o : Option (Buffer KeptFiles)) (n : ℕ) (p : BareParts) (now : State) → RepresentsState (BareMachine p) now → latest n o ≡ files_of now → o ≡ None
 without-files None n p now st files = refl
 without-files (Some b) n p (Bare m) st files = cc
 without-files (Some b) n p (Full k) st files = absurd st
@@ -142,7 +142,7 @@ pub record HasRing (o : Option (Buffer KeptFiles)) : Type 0 where
   pub ring : Buffer KeptFiles
   pub is : o ≡ Some ring
 
-with-files : (o : Option (Buffer KeptFiles)) (n : ℕ) (p : KernelParts) (now : State) → StandFor (FullMachine p) now → latest n o ≡ files_of now → HasRing o
+with-files : (o : Option (Buffer KeptFiles)) (n : ℕ) (p : KernelParts) (now : State) → RepresentsState (FullMachine p) now → latest n o ≡ files_of now → HasRing o
 with-files (Some b) n p now st files = record { ring = b; is = refl }
 with-files None n p (Bare m) st files = absurd st
 with-files None n p (Full k) st files = cc
@@ -159,11 +159,11 @@ full-step : (all : List (ℕ × ℕ)) (words : List ℕ) (f : Files) (m : Moment
 full-step all words f (BareKind m) b p full = absurd full
 full-step all words f (FullKind m) b p full = files-step (last_files (gone_back 17 m.step b.items)) (at_moment (Some (FullKind m)) words p)
 
-store-words : (p : KernelParts) (now : State) → StandFor (FullMachine p) now → p.store ≡ words_of now
+store-words : (p : KernelParts) (now : State) → RepresentsState (FullMachine p) now → p.store ≡ words_of now
 store-words p (Bare m) st = absurd st
 store-words p (Full k) st = image-list p.store k st.image
 
-marks-count : (p : KernelParts) (now : State) → StandFor (FullMachine p) now → length p.kinds ≡ length p.store
+marks-count : (p : KernelParts) (now : State) → RepresentsState (FullMachine p) now → length p.kinds ≡ length p.store
 marks-count p (Bare m) st = absurd st
 marks-count p (Full k) st = st.marks
 
@@ -215,20 +215,20 @@ module _ (h : Inside) (k : IsHistory h) (n : ℕ) (some : 0 < n) (few : n ≤ le
   kind = kind-of h.keys.items h.files h.steps (length h.journal.past - n) h.journal.past (goes h k n some few now).member (goes h k n some few now).got k.files
 
   -- the new history, whatever it is called
-  returned : (new : Inside) (parts : Parts) → new ≡ after h k n some few now → StandFor parts (back h k n some few now) → keys_of parts ≡ h.keys.items → IsReturned h new parts n now
+  returned : (new : Inside) (parts : Parts) → new ≡ after h k n some few now → RepresentsState parts (back h k n some few now) → keys_of parts ≡ h.keys.items → IsReturned h new parts n now
   returned new parts eq stands same =
       let is = state-is h k n some few now in
       record {
         history = subst IsHistory (sym eq) (returned-is h k n some few now);
         past = ap (λ (x : Inside). (view_of x).past) eq ∙ returned-past h k n some few now;
         now_is = ap (λ (x : Inside). (view_of x).now) eq ∙ returned-now h k n some few now ∙ ap (λ s. now_of s h.keys.items) (sym is);
-        stands = subst (StandFor parts) (sym is) stands;
+        stands = subst (RepresentsState parts) (sym is) stands;
         sound = subst IsSound (sym is) (member-of h k n some few now).sound;
         goes_on = ap stop_of is ∙ back-goes h k n some few now;
         keys = same;
       }
 
-  pub bare-returned : (p q : BareParts) (j : Journal Moment) (keys : List (ℕ × ℕ)) → StandFor (BareMachine p) now → [] ≡ keys → (view_of h).now ≡ now_of now keys → j ≡ journal_back n h.journal
+  pub bare-returned : (p q : BareParts) (j : Journal Moment) (keys : List (ℕ × ℕ)) → RepresentsState (BareMachine p) now → [] ≡ keys → (view_of h).now ≡ now_of now keys → j ≡ journal_back n h.journal
       → q ≡ bare_parts_back (moment_back n h.journal) (journal_back n h.journal).words p → IsReturned h (record { journal = j; files = h.files; steps = q.step; keys = h.keys }) (BareMachine q) n now
   bare-returned p q j keys st without seen journal_is is =
       let none : h.files ≡ None = without-files h.files h.steps p now st (ap (λ (x : Now). x.files) seen) in
@@ -237,10 +237,10 @@ module _ (h : Inside) (k : IsHistory h) (n : ℕ) (some : 0 < n) (few : n ≤ le
       let steps : q.step ≡ number side = ap (λ (x : BareParts). x.step) parts ∙ bare-step h.keys.items words stood side p bare in
       returned (record { journal = j; files = h.files; steps = q.step; keys = h.keys }) (BareMachine q)
       (λ i. record { journal = journal_is i; files = sym (no-files h.files (number side) none) i; steps = steps i; keys = h.keys })
-      (subst (λ (x : BareParts). StandFor (BareMachine x) (back h k n some few now)) (sym parts) (bare-stands h.keys.items words stood side p bare)) (without ∙ sym (ap (λ (x : Now). x.keys) seen))
+      (subst (λ (x : BareParts). RepresentsState (BareMachine x) (back h k n some few now)) (sym parts) (bare-stands h.keys.items words stood side p bare)) (without ∙ sym (ap (λ (x : Now). x.keys) seen))
 
   -- what the parts of a machine with a kernel need to go back
-  module _ (p : KernelParts) (keys : List (ℕ × ℕ)) (st : StandFor (FullMachine p) now) (seen : (view_of h).now ≡ now_of now keys) (same : p.keys.keys ≡ keys) where
+  module _ (p : KernelParts) (keys : List (ℕ × ℕ)) (st : RepresentsState (FullMachine p) now) (seen : (view_of h).now ≡ now_of now keys) (same : p.keys.keys ≡ keys) where
     has : HasRing h.files
     has = with-files h.files h.steps p now st (ap (λ (x : Now). x.files) seen)
 
@@ -276,7 +276,7 @@ module _ (h : Inside) (k : IsHistory h) (n : ℕ) (some : 0 < n) (few : n ≤ le
         λ known l stands. marks known l (subst (λ s. IsStoreOf s known l) (sym store) stands) (ap length store ∙ sym count) in
         returned (record { journal = j; files = f; steps = q.step; keys = h.keys }) (FullMachine q)
         (λ i. record { journal = journal_is i; files = (files_is ∙ ap (λ m. files_back m h.files) steps) i; steps = steps i; keys = h.keys })
-        (subst (λ (x : KernelParts). StandFor (FullMachine x) (back h k n some few now)) (sym parts)
+        (subst (λ (x : KernelParts). RepresentsState (FullMachine x) (back h k n some few now)) (sym parts)
         (full-stands h.keys.items words stood side member.holds member.sound full b p q.kinds ring.0 ring.1 same-keys (size ∙ count) marked))
         (ap (λ (x : KernelParts). x.keys.keys) parts ∙ full-keys side words b p ∙ same-keys)
 
@@ -286,7 +286,7 @@ module _ (h : Inside) (k : IsHistory h) (n : ℕ) (some : 0 < n) (few : n ≤ le
 pub record HasGone (old new : HistoryView) (parts : Parts) (n : ℕ) (now : State) (keys : List (ℕ × ℕ)) : Type 0 where
   pub past : new.past ≡ past_back n old.past
   pub now_is : new.now ≡ now_of (state_back n old.past now) keys
-  pub stands : StandFor parts (state_back n old.past now)
+  pub stands : RepresentsState parts (state_back n old.past now)
   pub sound : IsSound (state_back n old.past now)
   pub goes_on : stop_of (state_back n old.past now) ≡ None
   pub keys_are : keys_of parts ≡ keys
@@ -305,7 +305,7 @@ has-gone h new parts left n m now keys old seen r count view_is same seen_is lef
     record {
       past = ap (λ (v : HistoryView). v.past) seen_is ∙ r.past ∙ ap (λ k. past_back k (view_of h).past) steps ∙ past-min n (view_of h).past ∙ ap (λ (v : HistoryView). past_back n v.past) view_is;
       now_is = ap (λ (v : HistoryView). v.now) seen_is ∙ r.now_is ∙ (λ i. now_of (back i) (same i));
-      stands = subst (λ p. StandFor p (state_back n old.past now)) (sym left_is) (subst (StandFor parts) back r.stands);
+      stands = subst (λ p. RepresentsState p (state_back n old.past now)) (sym left_is) (subst (RepresentsState parts) back r.stands);
       sound = subst IsSound back r.sound;
       goes_on = sym (ap stop_of back) ∙ r.goes_on;
       keys_are = ap keys_of left_is ∙ r.keys ∙ same;

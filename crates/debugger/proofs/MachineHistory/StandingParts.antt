@@ -8,7 +8,7 @@ use Rattle.kernel_model.specs.WordKinds.ByteMap.{MarksAll}
 use Rattle.kernel_model.specs.WordKinds.Keeper.{IsStoreOf}
 use Rattle.kernel_machine.specs.declared.running_machine.parts.Parts.{Parts}
 use Rattle.tripos_machine.specs.declared.parts.Parts.TheVariants.{Bare as BareMachine, Full as FullMachine}
-use Rattle.tripos_machine.specs.State.{IsBare, IsSound, StandFor}
+use Rattle.tripos_machine.specs.State.{IsBare, IsSound, RepresentsState}
 use Rattle.debugger.specs.MachineHistory.FilesBefore.{files_at, gone_back}
 use Rattle.debugger.specs.MachineHistory.Histories.{HasCome, IsFull, at_moment, bare_parts_back, parts_back, with_files_of}
 use Rattle.debugger.specs.MachineHistory.Moments.{HoldsState, number, state_in}
@@ -21,7 +21,7 @@ use Rattle.debugger.proofs.MachineHistory.KernelMoments.{stands-back, walked}
 
 module _ (keys : List (ℕ × ℕ)) (words : List ℕ) (f : Files) where
   -- a machine without a kernel
-  pub bare-stands : (m : Moment) (p : BareParts) → IsBare (state_in keys words f m) → StandFor (BareMachine (bare_parts_back (Some m) words p)) (state_in keys words f m)
+  pub bare-stands : (m : Moment) (p : BareParts) → IsBare (state_in keys words f m) → RepresentsState (BareMachine (bare_parts_back (Some m) words p)) (state_in keys words f m)
   bare-stands (Bare m) p bare = refl
   bare-stands (Full m) p bare = absurd bare
 
@@ -42,16 +42,16 @@ module _ (keys : List (ℕ × ℕ)) (words : List ℕ) (f : Files) where
         on (Full m) holds full = omega (arith, holds.come, ap length same)
 
     pub full-stands : (b : Buffer KeptFiles) (p : Parts) (kinds : List Bool) → IsLatest (number m) (gone_back 17 (number m) b.items) → files_at (number m) (gone_back 17 (number m) b.items) ≡ f → p.keys.keys ≡ keys → length kinds ≡ length words
-        → ((known : List ℕ) (l : Lists) → IsStoreOf words known l → MarksAll kinds known) → StandFor (FullMachine (record (parts_back (Some m) words (Some b) p) { kinds = kinds })) (state_in keys words f m)
+        → ((known : List ℕ) (l : Lists) → IsStoreOf words known l → MarksAll kinds known) → RepresentsState (FullMachine (record (parts_back (Some m) words (Some b) p) { kinds = kinds })) (state_in keys words f m)
     full-stands b p kinds latest is same size marks = on m holds sound full latest is same size marks
       where
         on : (m : Moment) → HoldsState keys words m (state_in keys words f m) → IsSound (state_in keys words f m) → IsFull (state_in keys words f m)
             → IsLatest (number m) (gone_back 17 (number m) b.items) → files_at (number m) (gone_back 17 (number m) b.items) ≡ f → p.keys.keys ≡ keys → length kinds ≡ length words
-            → ((known : List ℕ) (l : Lists) → IsStoreOf words known l → MarksAll kinds known) → StandFor (FullMachine (record (parts_back (Some m) words (Some b) p) { kinds = kinds })) (state_in keys words f m)
+            → ((known : List ℕ) (l : Lists) → IsStoreOf words known l → MarksAll kinds known) → RepresentsState (FullMachine (record (parts_back (Some m) words (Some b) p) { kinds = kinds })) (state_in keys words f m)
         on (Bare m) holds sound full latest is same size marks = absurd full
         on (Full m) holds sound full latest is same size marks =
             let left : Parts = at_moment (Some (Full m)) words p in
             let files = sym latest.is ∙ is in
-            subst (λ (o : Option KeptFiles). StandFor (FullMachine (record (with_files_of o left) { kinds = kinds })) (state_in keys words f (Full m))) (sym latest.last)
-            (subst (λ (g : Files). StandFor (FullMachine (record left { disc = g.disc; pipes = g.pipes; kinds = kinds })) (state_in keys words f (Full m))) (sym files)
+            subst (λ (o : Option KeptFiles). RepresentsState (FullMachine (record (with_files_of o left) { kinds = kinds })) (state_in keys words f (Full m))) (sym latest.last)
+            (subst (λ (g : Files). RepresentsState (FullMachine (record left { disc = g.disc; pipes = g.pipes; kinds = kinds })) (state_in keys words f (Full m))) (sym files)
             (stands-back keys words f m holds sound p same kinds size marks))

@@ -28,7 +28,7 @@ parts_of name =
     let digits = take_while is_ascii_digit behind in
     record { letters = letters; digits = digits; rest = drop (length digits) behind }
 
--- what a text stands for in a list of texts and what they stand for
+-- what the list pairs with a text, if it has that text
 abbrev pub meaning_in : {X : Type 0} → List (String × X) → List ℕ → Option X
 meaning_in [] text = None
 meaning_in (pair ∷ pairs) text = if bytes_eq (codes pair.0) text then Some pair.1 else meaning_in pairs text

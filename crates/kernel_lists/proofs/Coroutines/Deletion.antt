@@ -17,7 +17,7 @@ use Rattle.kernel_lists.proofs.LinkedList.Insertion.{times-front_cell}
 use Rattle.kernel_lists.proofs.LinkedList.Lists.{list-remove, list-removed}
 use Rattle.kernel_lists.specs.LinkedList.Linked.{IsListAt}
 use Rattle.kernel_lists.proofs.LinkedList.Members.{has-times, without-has, without-keeps, has-not, cell-cases}
-use Rattle.kernel_lists.proofs.LinkedList.Places.{Stands, stands}
+use Rattle.kernel_lists.proofs.LinkedList.Places.{NodePlace, stands}
 use Rattle.kernel_lists.proofs.GetvecChain.UsedBlocks.{UsedBlock, used_at-apart, used_at-is}
 use Rattle.kernel_lists.proofs.GetvecChain.Writes.{SameBlocks, SameBlocks-kept}
 use Rattle.kernel_lists.specs.TaskBlock.Lists.{coroutine_link, coroutines_in}
@@ -41,7 +41,7 @@ unlinked s t c = linked_out s coroutine_link (cell_of s t c) c
 -- the word before c is the head, or the link of another coroutine
 cell-is : (s : List ℕ) (t c : ℕ) → HasCoroutines s t → is_known s t c ≡ true → (cell_of s t c ≡ t + 17) ⊎ ((k : ℕ) × (is_known s t k ≡ true) × (cell_of s t c ≡ k + 2))
 cell-is s t c h known =
-    let r : Stands coroutine_link (t + 17) c (coroutines_in s t) = stands coroutine_link (t + 17) c (coroutines_in s t) known in
+    let r : NodePlace coroutine_link (t + 17) c (coroutines_in s t) = stands coroutine_link (t + 17) c (coroutines_in s t) known in
     cell-cases coroutine_link (cell_of s t c) (t + 17) (coroutines_in s t)
     (subst (λ z. 0 < times z (cells coroutine_link (t + 17) (coroutines_in s t))) (sym r.cell)
     (subst (λ z. 0 < times (last_cell coroutine_link (t + 17) r.front) (cells coroutine_link (t + 17) z)) (sym r.whole) (times-front_cell coroutine_link (t + 17) r.front (c ∷ r.back))))
@@ -139,7 +139,7 @@ delete-built s t c h known idle =
       idle = all-members (λ k. has k (active_in s t) ≡ false → parent_in v k ≡ 0) rest (λ k some none. word k 1 (known_of k some) (omega arith) (λ e. absurd (omega (arith, e))) ∙ no_parent-word s t k h (known_of k some) none);
     })
   where
-    r : Stands coroutine_link (t + 17) c (coroutines_in s t)
+    r : NodePlace coroutine_link (t + 17) c (coroutines_in s t)
     r = stands coroutine_link (t + 17) c (coroutines_in s t) known
 
     gone : times c (without c (coroutines_in s t)) ≡ 0

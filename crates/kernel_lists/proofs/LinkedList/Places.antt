@@ -67,7 +67,7 @@ place f link at p (q ∷ qs) = on (list_any f (q ∷ qs)) refl (list_any f qs) r
         }
 
 -- where a node stands
-pub record Stands (link : ℕ → ℕ) (at p : ℕ) (ps : List ℕ) : Type 0 where
+pub record NodePlace (link : ℕ → ℕ) (at p : ℕ) (ps : List ℕ) : Type 0 where
   pub front : List ℕ
   pub back : List ℕ
   pub whole : ps ≡ front ++ p ∷ back
@@ -75,11 +75,11 @@ pub record Stands (link : ℕ → ℕ) (at p : ℕ) (ps : List ℕ) : Type 0 whe
   pub list : without p ps ≡ front ++ back
   pub before : has p front ≡ false
 
-pub stands : (link : ℕ → ℕ) (at p : ℕ) (ps : List ℕ) → has p ps ≡ true → Stands link at p ps
+pub stands : (link : ℕ → ℕ) (at p : ℕ) (ps : List ℕ) → has p ps ≡ true → NodePlace link at p ps
 stands link at p [] e = cc
 stands link at p (q ∷ qs) e = on (eqb p q) refl e (stands link (link q) p qs)
   where
-    on : (b : Bool) → eqb p q ≡ b → (b || has p qs) ≡ true → (has p qs ≡ true → Stands link (link q) p qs) → Stands link at p (q ∷ qs)
+    on : (b : Bool) → eqb p q ≡ b → (b || has p qs) ≡ true → (has p qs ≡ true → NodePlace link (link q) p qs) → NodePlace link at p (q ∷ qs)
     on true t e more =
         let same : p ≡ q = grind (arith, nat_tests) in
         record {

@@ -13,7 +13,7 @@ use Rattle.kernel_lists.proofs.LinkedList.Frames.{list-set, word-no_cell}
 use Rattle.kernel_lists.proofs.LinkedList.Insertion.{times-front_cell}
 use Rattle.kernel_lists.proofs.LinkedList.AllMembers.{all-back, all-front, all-append}
 use Rattle.kernel_lists.proofs.LinkedList.Lists.{list-node, list-remove, list-removed}
-use Rattle.kernel_lists.proofs.LinkedList.Places.{Stands, stands}
+use Rattle.kernel_lists.proofs.LinkedList.Places.{NodePlace, stands}
 use Rattle.kernel_lists.specs.TaskBlock.Moves.{without_task}
 use Rattle.kernel_lists.specs.TaskBlock.Versions.{highest_id}
 use Rattle.kernel_lists.specs.TaskBlock.TaskChain.{Fall, HasTasks, IsInTable, IsNewTask, id_in, root_words, task_link, task_size, task_with, tasks_in}
@@ -29,12 +29,12 @@ length-without_task : (s : List ℕ) (t : ℕ) → length (without_task s t) ≡
 length-without_task s t = length-set (linked_out s task_link (link_before s t) t) (120 + id_in s t) 0 ∙ length-set s (link_before s t) (get_or s t 0)
 
 -- the word before a task is a cell of the chain
-cell-is-cell : (s : List ℕ) (t : ℕ) → Stands task_link 101 t (tasks_in s) → 0 < times (link_before s t) (cells task_link 101 (tasks_in s))
+cell-is-cell : (s : List ℕ) (t : ℕ) → NodePlace task_link 101 t (tasks_in s) → 0 < times (link_before s t) (cells task_link 101 (tasks_in s))
 cell-is-cell s t r =
     subst (λ c. 0 < times c (cells task_link 101 (tasks_in s))) (sym r.cell)
     (subst (λ z. 0 < times (last_cell task_link 101 r.front) (cells task_link 101 z)) (sym r.whole) (times-front_cell task_link 101 r.front (t ∷ r.back)))
 
-stays : (s : List ℕ) (t a : ℕ) → Stands task_link 101 t (tasks_in s) → times a (cells task_link 101 (tasks_in s)) ≡ 0 → a ≢ 120 + id_in s t → get_or (without_task s t) a 0 ≡ get_or s a 0
+stays : (s : List ℕ) (t a : ℕ) → NodePlace task_link 101 t (tasks_in s) → times a (cells task_link 101 (tasks_in s)) ≡ 0 → a ≢ 120 + id_in s t → get_or (without_task s t) a 0 ≡ get_or s a 0
 stays s t a r none no_entry =
     get_or-set_other (linked_out s task_link (link_before s t) t) (120 + id_in s t) a 0 0 no_entry
     ∙ get_or-set_other s (link_before s t) a (get_or s t 0) 0 (λ e. absurd (omega (arith, none, subst (λ z. 0 < times z (cells task_link 101 (tasks_in s))) (sym e) (cell-is-cell s t r))))
@@ -78,7 +78,7 @@ pub record TaskOut (s v : List ℕ) (t : ℕ) : Type 0 where
 pub task-out : (s : List ℕ) (t : ℕ) → HasTasks s → has t (tasks_in s) ≡ true → TaskOut s (without_task s t) t
 task-out s t h some =
     let v : List ℕ = without_task s t in
-    let r : Stands task_link 101 t (tasks_in s) = stands task_link 101 t (tasks_in s) some in
+    let r : NodePlace task_link 101 t (tasks_in s) = stands task_link 101 t (tasks_in s) some in
     let u : List ℕ = linked_out s task_link (link_before s t) t in
     let linked : IsListAt u task_link task_size 101 (without t (tasks_in s)) =
     list-remove s u task_link task_size 101 t h.chain some (list-removed s task_link task_size 101 t h.chain some)
@@ -160,13 +160,13 @@ task-out s t h some =
       same = λ j some few. subst (AllByRecursion (λ u. get_or v (u + j) 0 ≡ get_or s (u + j) 0)) (sym v_list) (same j some few);
     }
   where
-    same_word : (s : List ℕ) (t : ℕ) → HasTasks s → Stands task_link 101 t (tasks_in s) → InChain s t → (j : ℕ) → 0 < j → j < 23 → (ts : List ℕ) → AllByRecursion (InChain s) ts
+    same_word : (s : List ℕ) (t : ℕ) → HasTasks s → NodePlace task_link 101 t (tasks_in s) → InChain s t → (j : ℕ) → 0 < j → j < 23 → (ts : List ℕ) → AllByRecursion (InChain s) ts
         → AllByRecursion (λ u. get_or (without_task s t) (u + j) 0 ≡ get_or s (u + j) 0) ts
     same_word s t h r mine j some few [] all = tt
     same_word s t h r mine j some few (u ∷ ts) all =
         (stays s t (u + j) r (all.0.words j some few) (λ e. absurd (all.0.apart j few (omega (arith, e)) (omega (arith, e, mine.table.high, h.highest)))), same_word s t h r mine j some few ts all.1)
 
-    not-there : (s : List ℕ) (t : ℕ) → HasTasks s → (r : Stands task_link 101 t (tasks_in s)) → AllByRecursion (λ u. u ≢ t) (r.front ++ r.back)
+    not-there : (s : List ℕ) (t : ℕ) → HasTasks s → (r : NodePlace task_link 101 t (tasks_in s)) → AllByRecursion (λ u. u ≢ t) (r.front ++ r.back)
     not-there s t h r = apart-nodes s (r.front ++ r.back) (λ a. omega (arith, h.chain.apart a, ap (λ z. times a (words_of task_size z)) r.whole, times-words_of task_size a r.front r.back, times-words_of task_size a r.front (t ∷ r.back), times-words_more task_size a t r.back))
       where
         apart-nodes : (s : List ℕ) (ts : List ℕ) → ((a : ℕ) → times a (words_of task_size ts) + times a (node_words task_size t) ≤ 1) → AllByRecursion (λ u. u ≢ t) ts

@@ -12,9 +12,9 @@ use Rattle.kernel_model.specs.WordKinds.ByteMap.{MarksAll}
 use Rattle.kernel_machine.specs.KernelSteps.Step.{dispatch}
 use Rattle.kernel_machine.proofs.KernelSteps.DispatchKept.{dispatch-numbers}
 use Rattle.kernel_machine.specs.declared.running_machine.parts.Parts.{Parts}
-use Rattle.kernel_machine.specs.RunningMachine.Stands.{Stands}
+use Rattle.kernel_machine.specs.RunningMachine.RepresentedKernels.{RepresentsKernel}
 
-module _ (p : Parts) (k : Kernel) (h : Stands p k) (t : List ℕ) (regs : Regs) (kinds : List Bool) (before now : Option (List KernelEvent)) (f g : Bool)
+module _ (p : Parts) (k : Kernel) (h : RepresentsKernel p k) (t : List ℕ) (regs : Regs) (kinds : List Bool) (before now : Option (List KernelEvent)) (f g : Bool)
     (room : length kinds ≡ length p.kinds) (left : IsDispatched p.store t k.lists p.regs regs (MarksAll kinds) before now f g) where
   abbrev m : Dispatched
   m = dispatched (image k) k.lists k.regs
@@ -35,7 +35,7 @@ module _ (p : Parts) (k : Kernel) (h : Stands p k) (t : List ℕ) (regs : Regs) 
   plain : HasPlainWords (settled m.plain k m.lists)
   plain = settled-plain k m.lists m.plain is.lists.lists.valid.owns
 
-  pub dispatched-stands : Stands (record p { store = t; regs = regs; kinds = kinds }) (dispatch k).kernel
+  pub dispatched-stands : RepresentsKernel (record p { store = t; regs = regs; kinds = kinds }) (dispatch k).kernel
   unfolding dispatch settled
   dispatched-stands = record {
     keeper = record { lists = is.lists.lists; knows = is.knows; enough = omega (arith, room, is.lists.size, ap length (image-list p.store k h.image), h.keeper.enough) };

@@ -25,7 +25,7 @@ use Rattle.kernel_boot.specs.ResidentKernel.{resident_lists}
 use Rattle.kernel_machine.proofs.KernelSteps.StoredWords.{HasStore, stored}
 use Rattle.kernel_machine.specs.declared.running_machine.parts.Parts.{Parts}
 use Rattle.kernel_machine.specs.RunningMachine.Script.{still_to_come}
-use Rattle.kernel_machine.specs.RunningMachine.Stands.{Stands}
+use Rattle.kernel_machine.specs.RunningMachine.RepresentedKernels.{RepresentsKernel}
 use Rattle.kernel_machine.specs.MachineBoot.Boot.{first_kernel, first_lists}
 
 -- ---- plain words
@@ -94,7 +94,7 @@ module _ (s : Session) (p : Parts) (m : AreMade s p) where
       let words : plain_words p.store lists ≡ plain_words (replicate s.store 0) lists = plain-same (replicate s.store 0) p.store lists m.store.lists m.store.written.others in
       subst (λ ws. HasStore p.store (record (first_kernel s) { plain = ws })) words (stored p.store lists (first_kernel s) m.store.lists)
 
-  pub made-stands : Stands p (first_kernel s)
+  pub made-stands : RepresentsKernel p (first_kernel s)
   unfolding first_kernel
   made-stands = record {
     keeper =

@@ -18,13 +18,13 @@ use Rattle.kernel_machine.specs.KernelSteps.ResidentSteps.{with_disc}
 use Rattle.kernel_machine.specs.KernelSteps.Stepped.{with_store}
 use Rattle.kernel_machine.proofs.KernelSteps.StoredWords.{HasStore, stored}
 use Rattle.kernel_machine.specs.declared.running_machine.parts.Parts.{Parts}
-use Rattle.kernel_machine.specs.RunningMachine.Stands.{Stands}
+use Rattle.kernel_machine.specs.RunningMachine.RepresentedKernels.{RepresentsKernel}
 use Rattle.kernel_machine.proofs.RunningMachine.PartsBeside.{stands-beside}
 use Rattle.kernel_machine.specs.MachineBoot.Boot.{with_files, with_lines, with_standing, with_tasks}
 use Rattle.kernel_machine.specs.MachineBoot.Booted.{CanStart, IsReached}
 use Rattle.kernel_machine.proofs.MachineBoot.ReadyTasks.{IsReady, tasks-ready}
 
-module _ (p : Parts) (k : Kernel) (h : Stands p k) (lines : List SessionLine) where
+module _ (p : Parts) (k : Kernel) (h : RepresentsKernel p k) (lines : List SessionLine) where
   -- ---- the files
 
   pub files-reached : (d : Disc) (r : Result (Unit {0}) BootRefusal) → IsNewDisc d r (load_files p.disc lines) → IsReached (record p { disc = d }) r (with_files lines k)
@@ -43,7 +43,7 @@ module _ (p : Parts) (k : Kernel) (h : Stands p k) (lines : List SessionLine) wh
       tasks-ready (numbers_of k.lists) k.lists.size k.lists.version k.disc lines (standing (image k) k.lists) x can.may_start is before
 
   module _ (t : List ℕ) (kinds : List Bool) (room : length kinds ≡ length p.kinds) where
-    left-stands : (l : Lists) → IsReady (numbers_of k.lists) k.lists.size l → HasKeeper t (MarksAll kinds) (length kinds) l → Stands (record p { store = t; kinds = kinds }) (with_store t l k)
+    left-stands : (l : Lists) → IsReady (numbers_of k.lists) k.lists.size l → HasKeeper t (MarksAll kinds) (length kinds) l → RepresentsKernel (record p { store = t; kinds = kinds }) (with_store t l k)
     left-stands l ready keeper =
         let store : HasStore t (with_store t l k) = stored t l k keeper.lists in
         record {
@@ -84,6 +84,6 @@ lines-refused lines k refusal is = ap (λ x. x >>= with_tasks lines) is
 
 -- what was not refused was reached
 pub reached-kernel : (p : Parts) (r : Result (Unit {0}) BootRefusal) (reached : Result Kernel BootRefusal) → ((refusal : BootRefusal) → r ≡ Err refusal → ⊥) → IsReached p r reached
-    → (k : Kernel) × (reached ≡ Ok k) × Stands p k
+    → (k : Kernel) × (reached ≡ Ok k) × RepresentsKernel p k
 reached-kernel p (Ok u) reached never h = h
 reached-kernel p (Err refusal) reached never h = absurd (never refusal refl)

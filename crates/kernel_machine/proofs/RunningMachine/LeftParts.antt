@@ -10,13 +10,13 @@ use Rattle.kernel_model.proofs.KernelRecord.NotedInTurn.{notes-none, notes-then}
 use Rattle.kernel_model.specs.WordKinds.ByteMap.{MarksAll}
 use Rattle.kernel_calls.specs.CallAnswers.Outside.{Outside}
 use Rattle.kernel_machine.specs.declared.running_machine.parts.Parts.{Parts}
-use Rattle.kernel_machine.specs.RunningMachine.Stands.{Stands}
+use Rattle.kernel_machine.specs.RunningMachine.RepresentedKernels.{RepresentsKernel}
 use Rattle.kernel_machine.specs.KernelSteps.Stepped.{Stepped, and_then, quietly, with_store}
 use Rattle.kernel_machine.proofs.KernelSteps.StoredWords.{image-stored, plain-stored}
 use Rattle.kernel_machine.specs.RunningMachine.Leaves.{Leaves}
 
 -- nothing was done
-pub leaves-none : (p : Parts) (o : Outside) (k : Kernel) → Stands p k → Leaves p o o (quietly k)
+pub leaves-none : (p : Parts) (o : Outside) (k : Kernel) → RepresentsKernel p k → Leaves p o o (quietly k)
 leaves-none p o k st = record { stands = st; bytes = sym (append-nil o.shown); notes = notes-none o.noted o.failed }
 
 -- one after the other
@@ -28,9 +28,9 @@ leaves-then p q a b c x next one two = record {
 }
 
 -- lists, plain words and registers have changed, and with them the keeper and whether the machine stops
-module _ (p : Parts) (k : Kernel) (st : Stands p k) where
+module _ (p : Parts) (k : Kernel) (st : RepresentsKernel p k) where
   pub stands-changed : (s t : List ℕ) (marks : List Bool) (regs : Regs) (l : Lists) (plain : Pairs) (r : Regs) (stop : Option Stop) → length s ≡ length p.store → IsChanged s t l plain → Knows (MarksAll marks) l → length marks ≡ length p.kinds
-      → regs ≡ r → l.period ≡ k.lists.period → Stands (record p { store = t; regs = regs; kinds = marks }) (record (with_store (written plain s) l k) { regs = r; stop = stop })
+      → regs ≡ r → l.period ≡ k.lists.period → RepresentsKernel (record p { store = t; regs = regs; kinds = marks }) (record (with_store (written plain s) l k) { regs = r; stop = stop })
   stands-changed s t marks regs l plain r stop size c knows room e same =
       let own = c.lists.valid.owns in
       let image = image-stored s t l k plain c.lists.size c.written in

@@ -11,7 +11,7 @@ use Rattle.kernel_model.specs.KernelRecord.ValidKernel.{IsValid}
 use Rattle.kernel_model.proofs.KernelRecord.RecoveredLists.{lists-back}
 use Rattle.kernel_model.specs.declared.kernel_record.stops.Stop.{Stop}
 use Rattle.kernel_machine.specs.declared.running_machine.parts.Parts.{Parts}
-use Rattle.kernel_machine.specs.RunningMachine.Stands.{Stands}
+use Rattle.kernel_machine.specs.RunningMachine.RepresentedKernels.{RepresentsKernel}
 use Rattle.kernel_machine.specs.KernelSteps.Stepped.{with_store}
 use Rattle.kernel_machine.proofs.KernelSteps.StoredWords.{image-stored, plain-stored}
 use Rattle.kernel_machine.specs.RunningMachine.Machine.{IsWhole, kernel_of}
@@ -34,7 +34,7 @@ pub stop-of : (p : Parts) (stop : Option Stop) → (kernel_of p stop).stop ≡ s
 unfolding kernel_of
 stop-of p stop = refl
 
-module _ (p : Parts) (k : Kernel) (st : Stands p k) where
+module _ (p : Parts) (k : Kernel) (st : RepresentsKernel p k) where
   lists-one : lists_in p.store ≡ k.lists
   lists-one = let h = st.keeper.lists in lists-back p.store k.lists h.valid h.size h.holds
 
@@ -68,4 +68,4 @@ module _ (p : Parts) (k : Kernel) (st : Stands p k) where
 
   -- and is a whole machine with it
   pub whole : IsValid k → (stop : Option Stop) → k.stop ≡ stop → IsWhole p stop
-  whole h stop e = record { stands = subst (Stands p) (sym (one-machine stop e)) st; valid = subst IsValid (sym (one-machine stop e)) h }
+  whole h stop e = record { stands = subst (RepresentsKernel p) (sym (one-machine stop e)) st; valid = subst IsValid (sym (one-machine stop e)) h }

@@ -4,10 +4,10 @@ use Rattle.arrayvec.specs.ArrayVec.{ArrayVec}
 use Rattle.ram_disc.specs.Disc.{Disc}
 use Rattle.kernel_model.specs.KernelRecord.Kernel.{Console, Kernel, Pipe, Shell}
 use Rattle.kernel_machine.specs.declared.running_machine.parts.Parts.{Parts}
-use Rattle.kernel_machine.specs.RunningMachine.Stands.{Stands}
+use Rattle.kernel_machine.specs.RunningMachine.RepresentedKernels.{RepresentsKernel}
 
-pub stands-beside : (p : Parts) (k : Kernel) → Stands p k → {console now : Console} {shell put : Shell} {disc new : Disc} {pipes held : List (Option Pipe)} → console ≡ now → shell ≡ put → disc ≡ new → pipes ≡ held
-    → Stands (record p { console = console; shell = shell; disc = disc; pipes = pipes }) (record k { console = now; shell = put; disc = new; pipes = held })
+pub stands-beside : (p : Parts) (k : Kernel) → RepresentsKernel p k → {console now : Console} {shell put : Shell} {disc new : Disc} {pipes held : List (Option Pipe)} → console ≡ now → shell ≡ put → disc ≡ new → pipes ≡ held
+    → RepresentsKernel (record p { console = console; shell = shell; disc = disc; pipes = pipes }) (record k { console = now; shell = put; disc = new; pipes = held })
 stands-beside p k st console shell disc pipes = record {
   keeper = st.keeper;
   marks = st.marks;
@@ -25,7 +25,7 @@ stands-beside p k st console shell disc pipes = record {
 }
 
 -- the file handler's buffer is no part of the kernel
-pub stands-buffer : (p : Parts) (k : Kernel) (bytes : ArrayVec ℕ) → Stands p k → Stands (record p { bytes = bytes }) k
+pub stands-buffer : (p : Parts) (k : Kernel) (bytes : ArrayVec ℕ) → RepresentsKernel p k → RepresentsKernel (record p { bytes = bytes }) k
 stands-buffer p k bytes st = record {
   keeper = st.keeper;
   marks = st.marks;

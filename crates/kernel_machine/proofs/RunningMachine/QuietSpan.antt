@@ -16,7 +16,7 @@ use Rattle.kernel_devices.specs.Tick.{with_tick}
 use Rattle.kernel_devices.proofs.TickLists.{tick-owned}
 use Rattle.guest_turns.specs.Guarded.{is_owned}
 use Rattle.kernel_machine.specs.declared.running_machine.parts.Parts.{Parts}
-use Rattle.kernel_machine.specs.RunningMachine.Stands.{Stands}
+use Rattle.kernel_machine.specs.RunningMachine.RepresentedKernels.{RepresentsKernel}
 use Rattle.kernel_machine.specs.KernelSteps.Quiet.{IsQuietFor, after_instruction_of, instruction_of, passed}
 use Rattle.kernel_machine.specs.KernelSteps.Step.{run, step}
 use Rattle.kernel_machine.specs.KernelSteps.Stepped.{Stepped, and_then, quietly, with_store}
@@ -34,10 +34,10 @@ use Rattle.kernel_machine.proofs.RunningMachine.OneMachine.{stop-of}
 use Rattle.kernel_machine.proofs.RunningMachine.RunParts.{are-quiet, none-quiet, run-zero, run-first}
 
 -- n steps that were quiet, and left this kernel
-passed-by : (n : ℕ) (k j : Kernel) (p : Parts) → run n k ≡ quietly j → Stands p j → IsValid j → j.stop ≡ None → HasPassed n k p
+passed-by : (n : ℕ) (k j : Kernel) (p : Parts) → run n k ≡ quietly j → RepresentsKernel p j → IsValid j → j.stop ≡ None → HasPassed n k p
 passed-by n k j p e st h goes =
     let same : (run n k).kernel ≡ j = ap (λ (x : Stepped). x.kernel) e in
-    record { quiet = e ∙ ap quietly (sym same); stands = subst (Stands p) (sym same) st; valid = subst IsValid (sym same) h; goes = ap (λ (x : Kernel). x.stop) same ∙ goes }
+    record { quiet = e ∙ ap quietly (sym same); stands = subst (RepresentsKernel p) (sym same) st; valid = subst IsValid (sym same) h; goes = ap (λ (x : Kernel). x.stop) same ∙ goes }
 
 -- none is taken
 pub passed-none : (p : Parts) (w : IsWhole p None) (n : ℕ) → n ≡ 0 → HasPassed n (kernel_of p None) p
@@ -46,14 +46,14 @@ passed-none p w n none =
     passed-by n k k p (ap (λ m. run m k) none ∙ run-zero k) w.stands w.valid (stop-of p None)
 
 -- the steps and the ticks are counted
-pub stands-counted : (p : Parts) (k : Kernel) → Stands p k → (m : ℕ) → Stands (counted m p) (passed m k)
+pub stands-counted : (p : Parts) (k : Kernel) → RepresentsKernel p k → (m : ℕ) → RepresentsKernel (counted m p) (passed m k)
 stands-counted p k st m =
     let n : ℕ = (k.steps + m) / k.lists.period in
     let s : List ℕ = set p.store 108 n in
     let here : HasStore p.store k = record { valid = st.keeper.lists.valid; image = st.image; plain = st.plain } in
     let there : HasStore s (ticks_to n k) = ticked-store p.store k here n in
     let holds : HoldsLists s (with_tick n k.lists) = store-holds s (ticks_to n k) there in
-    let stands : Stands (record p { store = s; step = p.step + m }) (passed m k) =
+    let stands : RepresentsKernel (record p { store = s; step = p.step + m }) (passed m k) =
     record {
       marks = st.marks ∙ st.keeper.lists.size ∙ sym holds.size;
       keeper = record {
@@ -73,7 +73,7 @@ stands-counted p k st m =
       shell = st.shell;
       pipes = st.pipes;
     } in
-    subst (λ z. Stands (record p { store = set p.store 108 z; step = p.step + m }) (passed m k)) (λ i. (sym st.steps i + m) / sym st.period i) stands
+    subst (λ z. RepresentsKernel (record p { store = set p.store 108 z; step = p.step + m }) (passed m k)) (λ i. (sym st.steps i + m) / sym st.period i) stands
 
 -- ---- nobody runs
 
@@ -111,14 +111,14 @@ on-way-first p w m guest quiet =
     }
 
 -- the store and the registers that an instruction leaves
-pub stands-instruction : (p : Parts) (j : Kernel) (t : List ℕ) (r : Regs) → Stands p j → HoldsLists t j.lists → t ≡ (instruction_of j).words → r ≡ (instruction_of j).regs → Stands (record p { store = t; regs = r }) (after_instruction_of j)
+pub stands-instruction : (p : Parts) (j : Kernel) (t : List ℕ) (r : Regs) → RepresentsKernel p j → HoldsLists t j.lists → t ≡ (instruction_of j).words → r ≡ (instruction_of j).regs → RepresentsKernel (record p { store = t; regs = r }) (after_instruction_of j)
 stands-instruction p j t r st holds words regs =
     let left : Regs = (instruction_of j).regs in
     let q : Parts = record p { store = t; regs = r } in
     let size : length t ≡ length p.store = holds.size ∙ sym st.keeper.lists.size in
-    let one : Stands q (record (with_store t j.lists j) { regs = left }) =
+    let one : RepresentsKernel q (record (with_store t j.lists j) { regs = left }) =
     stands-changed p j st t t p.kinds r j.lists [] left j.stop size (changed-none t j.lists holds) st.keeper.knows refl regs (refl) in
-    subst (λ z. Stands q (record (with_store z j.lists j) { regs = left })) words one
+    subst (λ z. RepresentsKernel q (record (with_store z j.lists j) { regs = left })) words one
 
 module _ (k : Kernel) (n m : ℕ) (p : Parts) (way : IsOnWay k n (suc m) p) (few : k.steps + (n + suc m) ≤ most_steps) where
   abbrev here : Kernel

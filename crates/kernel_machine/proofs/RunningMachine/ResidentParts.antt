@@ -32,7 +32,7 @@ use Rattle.shell.proofs.KeptRules.{turn-rest}
 use Rattle.guest_turns.specs.GuestTurn.{numbers_of}
 use Rattle.guest_turns.proofs.RunningField.{RunsIn}
 use Rattle.kernel_machine.specs.declared.running_machine.parts.Parts.{Parts}
-use Rattle.kernel_machine.specs.RunningMachine.Stands.{Stands}
+use Rattle.kernel_machine.specs.RunningMachine.RepresentedKernels.{RepresentsKernel}
 use Rattle.kernel_machine.proofs.RunningMachine.PartsBeside.{stands-beside}
 use Rattle.kernel_machine.specs.KernelSteps.ResidentSteps.{after_resident, console_parts, console_step, file_step, handler_step, pipe_step, reporter_step, resident_step, serves_pipes, shell_step, with_console_lines, with_disc, with_pipes}
 use Rattle.kernel_machine.specs.KernelSteps.Stepped.{quietly, with_store}
@@ -45,7 +45,7 @@ use Rattle.kernel_machine.specs.RunningMachine.Leaves.{Leaves, RunsNumber}
 use Rattle.kernel_machine.proofs.RunningMachine.LeftParts.{stands-changed}
 
 -- a turn leaves this of the store and the keeper, and nothing else of the parts
-pub leaves-resident : (q : Parts) (j : Kernel) → Stands q j → (t : List ℕ) (marks : List Bool) (o n : Outside) (m : ResidentTurn) → IsResidentTurn t (MarksAll marks) o n m → length m.words ≡ length q.store → length marks ≡ length q.kinds
+pub leaves-resident : (q : Parts) (j : Kernel) → RepresentsKernel q j → (t : List ℕ) (marks : List Bool) (o n : Outside) (m : ResidentTurn) → IsResidentTurn t (MarksAll marks) o n m → length m.words ≡ length q.store → length marks ≡ length q.kinds
     → m.lists.period ≡ j.lists.period → Leaves (record q { store = t; kinds = marks }) o n (after_resident m j)
 leaves-resident q j st t marks o n m is size room period = record {
   stands = stands-changed q j st m.words t marks q.regs m.lists m.plain j.regs j.stop size is.lists is.knows room st.regs period;
@@ -80,7 +80,7 @@ report-words s l = on (work l)
         by true = refl
         by false = request-words unknown s l
 
-module _ (p : Parts) (k : Kernel) (st : Stands p k) where
+module _ (p : Parts) (k : Kernel) (st : RepresentsKernel p k) where
   -- the store is the image
   store-is : p.store ≡ image k
   store-is = image-list p.store k st.image
@@ -121,13 +121,13 @@ module _ (p : Parts) (k : Kernel) (st : Stands p k) where
           let l : Lists = x.standing.lists in
           let rest = turn-rest (image k) k.lists k.shell k.disc in
           let size : length t ≡ length p.store = omega (arith, now-shell.stands.keeper.lists.size, ap (λ (m : Lists). m.size) rest, st.keeper.lists.size) in
-          let same : Stands (record p { shell = shell; disc = disc }) (record k { shell = x.shell; disc = x.disc }) = stands-beside p k st st.console now-shell.shell now-shell.disc st.pipes in
+          let same : RepresentsKernel (record p { shell = shell; disc = disc }) (record k { shell = x.shell; disc = x.disc }) = stands-beside p k st st.console now-shell.shell now-shell.disc st.pipes in
           let left =
           stands-changed (record p { shell = shell; disc = disc }) (record k { shell = x.shell; disc = x.disc }) same t t marks p.regs l [] k.regs (cond x.finished (Some Finish) k.stop) size (changed-none t l now-shell.stands.keeper.lists)
           now-shell.stands.keeper.knows room st.regs (ap (λ (m : Lists). m.period) rest)
           in
           record {
-            stands = subst (λ w. Stands (record p { store = t; kinds = marks; shell = shell; disc = disc }) (record (with_store w l k) { shell = x.shell; disc = x.disc; stop = cond x.finished (Some Finish) k.stop })) now-shell.stands.words left;
+            stands = subst (λ w. RepresentsKernel (record p { store = t; kinds = marks; shell = shell; disc = disc }) (record (with_store w l k) { shell = x.shell; disc = x.disc; stop = cond x.finished (Some Finish) k.stop })) now-shell.stands.words left;
             bytes = now-shell.bytes;
             notes = now-shell.notes;
           }
@@ -169,7 +169,7 @@ module _ (p : Parts) (k : Kernel) (st : Stands p k) where
           subst (λ (g : Progress). IsResidentTurn t (MarksAll marks) o n (turn_done (image k) g)) parts-here
           (subst (λ s. IsResidentTurn t (MarksAll marks) o n (turn_done s (all_parts id (begun p.store k.lists p.console line)))) store-is is)
           in
-          let lines : Stands (record p { console = console; shell = shell }) (with_console_lines (console_parts k) k) =
+          let lines : RepresentsKernel (record p { console = console; shell = shell }) (with_console_lines (console_parts k) k) =
           stands-beside p k st (now ∙ ap (λ (g : Progress). g.console) parts-here) (put ∙ (λ i. record (st.shell i) { line = (parts-here i).command })) st.disc st.pipes
           in
           leaves-resident (record p { console = console; shell = shell }) (with_console_lines (console_parts k) k) lines t marks o n (turn_done (image k) (console_parts k)) here store-size room

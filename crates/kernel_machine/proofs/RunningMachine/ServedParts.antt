@@ -21,7 +21,7 @@ use Rattle.kernel_devices.specs.Typed.{with_typed}
 use Rattle.kernel_calls.specs.CallAnswers.Outside.{Outside}
 use Rattle.guest_turns.specs.GuestTurn.{numbers_of}
 use Rattle.kernel_machine.specs.declared.running_machine.parts.Parts.{Parts}
-use Rattle.kernel_machine.specs.RunningMachine.Stands.{Stands}
+use Rattle.kernel_machine.specs.RunningMachine.RepresentedKernels.{RepresentsKernel}
 use Rattle.kernel_machine.specs.KernelSteps.Parts.{numbers_after_tick}
 use Rattle.kernel_machine.specs.KernelSteps.Step.{dispatch, key, output, served, switched, tick, typed_by, with_key_typed}
 use Rattle.kernel_machine.specs.KernelSteps.Stepped.{quietly, with_store}
@@ -31,17 +31,17 @@ use Rattle.kernel_machine.specs.RunningMachine.Leaves.{CanServe, Leaves}
 use Rattle.kernel_machine.proofs.RunningMachine.LeftParts.{leaves-none, stands-changed}
 
 -- the parts stand for the kernel with these lists, whose plain words were written over those of the image
-pub stands-settled : (p : Parts) (k : Kernel) → Stands p k → (t : List ℕ) (marks : List Bool) (regs : Regs) (l : Lists) (plain : Pairs) (r : Regs) → IsChanged p.store t l plain → Knows (MarksAll marks) l → length marks ≡ length p.kinds
-    → regs ≡ r → l.period ≡ k.lists.period → Stands (record p { store = t; regs = regs; kinds = marks }) (record (settled plain k l) { regs = r })
+pub stands-settled : (p : Parts) (k : Kernel) → RepresentsKernel p k → (t : List ℕ) (marks : List Bool) (regs : Regs) (l : Lists) (plain : Pairs) (r : Regs) → IsChanged p.store t l plain → Knows (MarksAll marks) l → length marks ≡ length p.kinds
+    → regs ≡ r → l.period ≡ k.lists.period → RepresentsKernel (record p { store = t; regs = regs; kinds = marks }) (record (settled plain k l) { regs = r })
 unfolding settled
 stands-settled p k st t marks regs l plain r c knows room e same =
-    subst (λ z. Stands (record p { store = t; regs = regs; kinds = marks }) (record (with_store (written plain z) l k) { regs = r })) (image-list p.store k st.image)
+    subst (λ z. RepresentsKernel (record p { store = t; regs = regs; kinds = marks }) (record (with_store (written plain z) l k) { regs = r })) (image-list p.store k st.image)
     (stands-changed p k st p.store t marks regs l plain r k.stop refl c knows room e same)
 
 -- ---- a device
 
-module _ (p : Parts) (k : Kernel) (st : Stands p k) where
-  pub stands-served : (t : List ℕ) (m : Served) → IsServed p.store t k.lists m → m.lists.period ≡ k.lists.period → Stands (record p { store = t }) (served k m).kernel
+module _ (p : Parts) (k : Kernel) (st : RepresentsKernel p k) where
+  pub stands-served : (t : List ℕ) (m : Served) → IsServed p.store t k.lists m → m.lists.period ≡ k.lists.period → RepresentsKernel (record p { store = t }) (served k m).kernel
   unfolding settled
   stands-served t m is same =
       let found = stands-settled p k st t p.kinds p.regs m.lists [] k.regs is.lists (knows-same (MarksAll p.kinds) k.lists m.lists is.same st.keeper.knows) refl st.regs same in
@@ -62,7 +62,7 @@ module _ (p : Parts) (k : Kernel) (st : Stands p k) where
       }
 
   -- other bytes are typed ahead
-  pub stands-typed : (typed ahead : List ℕ) → typed ≡ ahead → Stands (record p { tty = typed }) (record k { type_ahead = ahead })
+  pub stands-typed : (typed ahead : List ℕ) → typed ≡ ahead → RepresentsKernel (record p { tty = typed }) (record k { type_ahead = ahead })
   stands-typed typed ahead e = record {
     keeper = st.keeper;
     marks = st.marks;
@@ -143,7 +143,7 @@ module _ (p : Parts) (k : Kernel) where
       let nums : numbers_of (met (with_key_typed k).type_ahead (with_key_typed k).lists).lists ≡ numbers_of (with_key_typed k).lists = ap numbers_of (sym key-met) ∙ key-numbers k can ∙ sym typed in
       ap (λ n. n.period) nums
 
-  pub leaves-key : (t typed : List ℕ) (o n : Outside) → Stands p (with_key_typed k) → CanDispatch k.lists k.regs → numbers_of (with_key_typed k).lists ≡ numbers_of k.lists → IsServed p.store t (with_key_typed k).lists (met p.tty (with_key_typed k).lists)
+  pub leaves-key : (t typed : List ℕ) (o n : Outside) → RepresentsKernel p (with_key_typed k) → CanDispatch k.lists k.regs → numbers_of (with_key_typed k).lists ≡ numbers_of k.lists → IsServed p.store t (with_key_typed k).lists (met p.tty (with_key_typed k).lists)
       → typed ≡ left_typed p.tty (with_key_typed k).lists.keyboard → n.shown ≡ o.shown → NotesAll o.noted n.noted o.failed n.failed (met p.tty (with_key_typed k).lists).events → Leaves (record p { store = t; tty = typed }) o n (key k)
   unfolding key
   leaves-key t typed o n st can same is left shown notes =
@@ -171,7 +171,7 @@ typed-numbers k = ap numbers_of (typed-lists k.keys k)
 
 -- ---- dispatch
 
-module _ (p : Parts) (k : Kernel) (st : Stands p k) where
+module _ (p : Parts) (k : Kernel) (st : RepresentsKernel p k) where
   switched-same : (dispatched p.store k.lists k.regs).lists.period ≡ k.lists.period
   switched-same = let nums = dispatch-numbers p.store k.lists k.regs in ap (λ n. n.period) nums
 

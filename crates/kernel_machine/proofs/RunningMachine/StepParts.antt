@@ -10,7 +10,7 @@ use Rattle.kernel_model.specs.KernelDispatch.Dispatch.{CanDispatch}
 use Rattle.kernel_model.specs.KernelRecord.Image.{settled}
 use Rattle.kernel_model.specs.declared.kernel_record.stops.Stop.{Stop}
 use Rattle.kernel_machine.specs.declared.running_machine.parts.Parts.{Parts}
-use Rattle.kernel_machine.specs.RunningMachine.Stands.{Stands}
+use Rattle.kernel_machine.specs.RunningMachine.RepresentedKernels.{RepresentsKernel}
 use Rattle.kernel_machine.specs.KernelSteps.Parts.{CanTurn, IsTaken}
 use Rattle.kernel_machine.specs.KernelSteps.Step.{after_the_turn, dispatch, key, output, step, tick, turn, unless_stopped, with_step}
 use Rattle.kernel_machine.specs.KernelSteps.Stepped.{and_then, quietly}
@@ -49,7 +49,7 @@ module _ (k : Kernel) (h : IsValid k) (goes : k.stop ≡ None) where
   }
 
 -- one step more is counted
-pub stands-step : (p : Parts) (k : Kernel) (n : ℕ) → Stands p k → n ≡ p.step + 1 → Stands (record p { step = n }) (with_step k)
+pub stands-step : (p : Parts) (k : Kernel) (n : ℕ) → RepresentsKernel p k → n ≡ p.step + 1 → RepresentsKernel (record p { step = n }) (with_step k)
 stands-step p k n st e = record {
   keeper = st.keeper;
   marks = st.marks;
@@ -106,7 +106,7 @@ some-stopped None r e some = absurd (no-some (ap is_none (sym e) ∙ some))
 some-stopped (Some s) r e some = (s, refl)
 
 -- what the code knows of a step, from the parts after its turn and at its end
-pub taken : (k : Kernel) (p q : Parts) → Stands p (turn (with_step k)).kernel → IsDisc p.disc → Stands q (step k).kernel → IsTaken k
+pub taken : (k : Kernel) (p q : Parts) → RepresentsKernel p (turn (with_step k)).kernel → IsDisc p.disc → RepresentsKernel q (step k).kernel → IsTaken k
 taken k p q turned disc whole = record {
   turned = turned.keeper.lists.valid;
   disc = subst IsDisc turned.disc disc;

@@ -21,7 +21,7 @@ use Rattle.guest_turns.proofs.TurnParts.{turn-size}
 use Rattle.resident_tasks.specs.FaultReporter.Recorded.{CanRecord, OwnsSame, recorded, recorded_events}
 use Rattle.kernel_model.specs.declared.kernel_record.stops.Stop.{Stop}
 use Rattle.kernel_machine.specs.declared.running_machine.parts.Parts.{Parts}
-use Rattle.kernel_machine.specs.RunningMachine.Stands.{Stands}
+use Rattle.kernel_machine.specs.RunningMachine.RepresentedKernels.{RepresentsKernel}
 use Rattle.kernel_machine.specs.KernelSteps.GuestSteps.{after_turn, guest_step, is_recorded, reported_by, stop_by, turn_of_guest, with_recorded}
 use Rattle.kernel_machine.proofs.KernelSteps.RunningCaller.{runs-alone, runs-calls}
 use Rattle.kernel_machine.proofs.KernelSteps.TurnKept.{recorded-numbers}
@@ -44,7 +44,7 @@ not-recorded (Faults f) m never = on (is_recorded m.lists f) (never f refl)
 pub one-fault : (e : TurnEnd) (g : Fault) (l : Lists) → e ≡ Faults g → is_recorded l g ≡ false → (f : Fault) → e ≡ Faults f → is_recorded l f ≡ false
 one-fault e g l is none f same = let equal : f ≡ g = cc in ap (is_recorded l) equal ∙ none
 
-module _ (p : Parts) (k : Kernel) (st : Stands p k) (task : ℕ) (g : RunsGuest task k) where
+module _ (p : Parts) (k : Kernel) (st : RepresentsKernel p k) (task : ℕ) (g : RunsGuest task k) where
   abbrev m : Turned
   m = turn_without_reporter (image k) k.lists k.regs
 

@@ -9,7 +9,7 @@ use Rattle.kernel_model.specs.declared.kernel_record.stops.Stop.{Stop}
 use Rattle.kernel_devices.specs.Typed.{with_typed}
 use Rattle.kernel_machine.specs.declared.running_machine.parts.Parts.{Parts}
 use Rattle.kernel_machine.specs.RunningMachine.Machine.{IsWhole, kernel_of, with_byte_typed}
-use Rattle.kernel_machine.specs.RunningMachine.Stands.{Stands}
+use Rattle.kernel_machine.specs.RunningMachine.RepresentedKernels.{RepresentsKernel}
 use Rattle.kernel_machine.proofs.KernelSteps.DevicesKept.{most-typed}
 
 plain-typed : (byte : ℕ) (k : Kernel) → HasPlainWords k → HasPlainWords (with_byte_typed byte k)
@@ -35,7 +35,7 @@ valid-typed byte k h =
       steps = record { steps = h.steps.steps; keys = h.steps.keys };
     }
 
-stands-typed : (byte : ℕ) (p : Parts) (tty : List ℕ) (k : Kernel) → Stands p k → tty ≡ with_typed byte p.tty → Stands (record p { tty = tty }) (with_byte_typed byte k)
+stands-typed : (byte : ℕ) (p : Parts) (tty : List ℕ) (k : Kernel) → RepresentsKernel p k → tty ≡ with_typed byte p.tty → RepresentsKernel (record p { tty = tty }) (with_byte_typed byte k)
 stands-typed byte p tty k h is = record {
   keeper = h.keeper;
   marks = h.marks;
@@ -61,6 +61,6 @@ whole-typed byte p tty stop w is =
     let k : Kernel = kernel_of p stop in
     let same : kernel_of (record p { tty = tty }) stop ≡ with_byte_typed byte k = kernel-typed byte p tty stop is in
     record {
-      stands = subst (Stands (record p { tty = tty })) (sym same) (stands-typed byte p tty k w.stands is);
+      stands = subst (RepresentsKernel (record p { tty = tty })) (sym same) (stands-typed byte p tty k w.stands is);
       valid = subst IsValid (sym same) (valid-typed byte k w.valid);
     }

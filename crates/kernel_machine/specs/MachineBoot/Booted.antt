@@ -14,7 +14,7 @@ use Rattle.kernel_boot.specs.declared.refusals.BootRefusal.{BootRefusal}
 use Rattle.session_text.specs.declared.sessions.SessionLine.{SessionLine}
 use Rattle.kernel_machine.specs.KernelSteps.Stepped.{Stepped}
 use Rattle.kernel_machine.specs.declared.running_machine.parts.Parts.{Parts}
-use Rattle.kernel_machine.specs.RunningMachine.Stands.{Stands}
+use Rattle.kernel_machine.specs.RunningMachine.RepresentedKernels.{RepresentsKernel}
 
 -- A task that neither runs, nor takes a packet once it is dispatched, and that has met no fault. The one that reports faults has no
 -- packets, and the fault packet is on no queue.
@@ -51,9 +51,9 @@ pub record CanLoad (lines : List SessionLine) (k : Kernel) : Type 0 where
   -- no stream is open
   pub streams : HasNoStreams k.disc
 
--- the parts stand for the kernel that is reached, or the answer is its refusal
+-- the parts represent the kernel that is reached, or the answer is its refusal
 abbrev pub IsReached : Parts → Result (Unit {0}) BootRefusal → Result Kernel BootRefusal → Type 0
-IsReached p (Ok u) reached = (k : Kernel) × (reached ≡ Ok k) × Stands p k
+IsReached p (Ok u) reached = (k : Kernel) × (reached ≡ Ok k) × RepresentsKernel p k
 IsReached p (Err refusal) reached = reached ≡ Err refusal
 
 -- an end is the refusal that the definition gives, unless memory ran out
@@ -61,10 +61,10 @@ abbrev pub EndsAs : BootEnd → Result Stepped BootRefusal → Type 0
 EndsAs (Line line code) booted = booted ≡ Err (boot_refusal line code)
 EndsAs WantMemory booted = Unit {0}
 
--- the parts stand for the kernel, which is valid and has not stopped
+-- the parts represent the kernel, which is valid and has not stopped
 pub record IsBooted (p : Parts) (k : Kernel) : Type 0 where
-  -- the parts stand for the kernel
-  pub stands : Stands p k
+  -- the parts represent the kernel
+  pub stands : RepresentsKernel p k
   -- it is valid
   pub valid : IsValid k
   -- the machine has not stopped

@@ -6,14 +6,14 @@ use Rattle.kernel_model.specs.KernelRecord.Task.{is_guest_id}
 use Rattle.kernel_model.specs.KernelDispatch.Dispatch.{CanDispatch}
 use Rattle.kernel_calls.specs.CallAnswers.Outside.{Outside}
 use Rattle.kernel_machine.specs.declared.running_machine.parts.Parts.{Parts}
-use Rattle.kernel_machine.specs.RunningMachine.Stands.{Stands}
+use Rattle.kernel_machine.specs.RunningMachine.RepresentedKernels.{RepresentsKernel}
 use Rattle.kernel_machine.specs.KernelSteps.Parts.{CanTurn}
 use Rattle.kernel_machine.specs.KernelSteps.Stepped.{Stepped}
 
 -- the code leaves what the part of the step leaves
 pub record Leaves (p : Parts) (old new : Outside) (x : Stepped) : Type 0 where
-  -- the parts stand for its kernel
-  pub stands : Stands p x.kernel
+  -- the parts represent its kernel
+  pub stands : RepresentsKernel p x.kernel
   -- its bytes went to the output
   pub bytes : new.shown ≡ old.shown ++ x.bytes
   -- its events went to the log, or the first of them where that failed

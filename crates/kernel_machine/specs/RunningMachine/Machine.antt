@@ -8,7 +8,7 @@ use Rattle.kernel_model.specs.declared.kernel_record.stops.Stop.{Stop}
 use Rattle.kernel_devices.specs.Typed.{with_typed}
 use Rattle.kernel_machine.specs.declared.running_machine.parts.Parts.{Parts}
 use Rattle.kernel_machine.specs.RunningMachine.Script.{still_to_come}
-use Rattle.kernel_machine.specs.RunningMachine.Stands.{Stands}
+use Rattle.kernel_machine.specs.RunningMachine.RepresentedKernels.{RepresentsKernel}
 
 -- its kernel, all keys of its script, and the bytes of its last step
 pub record MachineView : Type 0 where
@@ -39,9 +39,9 @@ kernel_of p stop = record {
 abbrev pub with_byte_typed : ℕ → Kernel → Kernel
 with_byte_typed byte k = record k { type_ahead = with_typed byte k.type_ahead }
 
--- the parts stand for this kernel, which is valid, and so for no other one
+-- the parts represent this kernel, which is valid, and so for no other one
 pub record IsWhole (p : Parts) (stop : Option Stop) : Type 0 where
-  -- the parts stand for that kernel
-  pub stands : Stands p (kernel_of p stop)
+  -- the parts represent that kernel
+  pub stands : RepresentsKernel p (kernel_of p stop)
   -- which is valid
   pub valid : IsValid (kernel_of p stop)

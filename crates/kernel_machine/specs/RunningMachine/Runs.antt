@@ -7,7 +7,7 @@ use Rattle.kernel_model.specs.KernelRecord.Kernel.{Kernel}
 use Rattle.kernel_model.specs.KernelRecord.Task.{is_guest_id}
 use Rattle.kernel_model.specs.KernelRecord.ValidKernel.{IsValid}
 use Rattle.kernel_machine.specs.declared.running_machine.parts.Parts.{Parts}
-use Rattle.kernel_machine.specs.RunningMachine.Stands.{Stands}
+use Rattle.kernel_machine.specs.RunningMachine.RepresentedKernels.{RepresentsKernel}
 use Rattle.kernel_machine.specs.KernelSteps.Quiet.{IsQuietFor}
 use Rattle.kernel_machine.specs.KernelSteps.Step.{run}
 use Rattle.kernel_machine.specs.KernelSteps.Stepped.{quietly}
@@ -16,8 +16,8 @@ use Rattle.kernel_machine.specs.KernelSteps.Stepped.{quietly}
 pub record HasPassed (n : ℕ) (k : Kernel) (p : Parts) : Type 0 where
   -- they showed and noted nothing
   pub quiet : run n k ≡ quietly (run n k).kernel
-  -- the parts stand for the kernel that they left
-  pub stands : Stands p (run n k).kernel
+  -- the parts represent the kernel that they left
+  pub stands : RepresentsKernel p (run n k).kernel
   -- that kernel is valid
   pub valid : IsValid (run n k).kernel
   -- and has not stopped

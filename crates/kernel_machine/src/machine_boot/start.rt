@@ -5,7 +5,7 @@ ghost use Rattle.kernel_model.specs.KernelRecord.Kernel.{Kernel};
 ghost use Rattle.kernel_model.specs.KernelDispatch.Dispatch.{CanDispatch};
 ghost use Rattle.kernel_boot.specs.BootFiles.{HasNoStreams};
 ghost use Rattle.kernel_machine.specs.KernelSteps.Step.{dispatch};
-ghost use Rattle.kernel_machine.specs.RunningMachine.Stands.{Stands};
+ghost use Rattle.kernel_machine.specs.RunningMachine.RepresentedKernels.{RepresentsKernel};
 ghost use Rattle.kernel_machine.specs.MachineBoot.Boot.{HasKernel, boot, first_kernel, first_lists, with_files, with_lines, with_tasks};
 ghost use Rattle.kernel_machine.specs.MachineBoot.Booted.{BootsAs, CanStart, CanLoad, IsReached};
 
@@ -70,7 +70,7 @@ fn want_memory(_: WantMemory) -> BootEnd
 // The machine before the lines.
 fn empty_machine(alloc: Global, session: &Session) -> Result<Parts, BootEnd>
     requires { HasKernel session.now }
-    ensures stands { MatchResult result (λ p. Stands p (first_kernel session.now))
+    ensures stands { MatchResult result (λ p. RepresentsKernel p (first_kernel session.now))
         (λ e. e ≡ BootEnd.WantMemory) }
     ensures keys { IfOk result (λ p. p.keys.come ≡ 0) }
 {
@@ -108,8 +108,8 @@ fn make_lists(store: &mut Store, session: &Session)
 
 // Puts the files of all lines on the disc, and then starts the tasks of all lines.
 fn put_lines(parts: &mut Parts, lines: &[SessionLine]) -> Result<(), BootRefusal>
-    requires { (k : Kernel) × Stands parts.old k × CanLoad lines.now k }
-    ensures reached { (k : Kernel) → Stands parts.old k → CanLoad lines.now k
+    requires { (k : Kernel) × RepresentsKernel parts.old k × CanLoad lines.now k }
+    ensures reached { (k : Kernel) → RepresentsKernel parts.old k → CanLoad lines.now k
         → IsReached parts.new result (with_lines lines.now k) }
     ensures keys { parts.new.keys ≡ parts.old.keys }
 {
@@ -120,7 +120,7 @@ fn put_lines(parts: &mut Parts, lines: &[SessionLine]) -> Result<(), BootRefusal
 // Puts the files of the lines on the disc.
 fn put_files(parts: &mut Parts, lines: &[SessionLine]) -> Result<(), BootRefusal>
     requires { HasNoStreams parts.old.disc }
-    ensures reached { (k : Kernel) → Stands parts.old k
+    ensures reached { (k : Kernel) → RepresentsKernel parts.old k
         → IsReached parts.new result (with_files lines.now k) }
     ensures keys { parts.new.keys ≡ parts.old.keys }
 {
@@ -129,8 +129,8 @@ fn put_files(parts: &mut Parts, lines: &[SessionLine]) -> Result<(), BootRefusal
 
 // Starts the tasks of the lines.
 fn put_tasks(parts: &mut Parts, lines: &[SessionLine]) -> Result<(), BootRefusal>
-    requires { (k : Kernel) × Stands parts.old k × CanStart lines.now k }
-    ensures reached { (k : Kernel) → Stands parts.old k → CanStart lines.now k
+    requires { (k : Kernel) × RepresentsKernel parts.old k × CanStart lines.now k }
+    ensures reached { (k : Kernel) → RepresentsKernel parts.old k → CanStart lines.now k
         → IsReached parts.new result (with_tasks lines.now k) }
     ensures keys { parts.new.keys ≡ parts.old.keys }
 {
@@ -139,9 +139,9 @@ fn put_tasks(parts: &mut Parts, lines: &[SessionLine]) -> Result<(), BootRefusal
 
 // Lets the first ready task run.
 fn dispatch(parts: &mut Parts)
-    requires { (k : Kernel) × Stands parts.old k × CanDispatch k.lists k.regs }
-    ensures stands { (k : Kernel) → Stands parts.old k → CanDispatch k.lists k.regs
-        → Stands parts.new (dispatch k).kernel }
+    requires { (k : Kernel) × RepresentsKernel parts.old k × CanDispatch k.lists k.regs }
+    ensures stands { (k : Kernel) → RepresentsKernel parts.old k → CanDispatch k.lists k.regs
+        → RepresentsKernel parts.new (dispatch k).kernel }
     ensures keys { parts.new.keys ≡ parts.old.keys }
 {
     switch(

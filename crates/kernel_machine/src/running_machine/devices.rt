@@ -3,7 +3,7 @@ ghost use Rattle.std.specs.Prelude.{◌≡◌, ◌<◌, length};
 ghost use Rattle.kernel_model.specs.KernelRecord.Kernel.{Kernel};
 ghost use Rattle.kernel_model.specs.KernelDispatch.Dispatch.{CanDispatch};
 ghost use Rattle.kernel_calls.specs.CallAnswers.Outside.{outside};
-ghost use Rattle.kernel_machine.specs.RunningMachine.Stands.{Stands};
+ghost use Rattle.kernel_machine.specs.RunningMachine.RepresentedKernels.{RepresentsKernel};
 ghost use Rattle.kernel_machine.specs.KernelSteps.Step.{dispatch, key, output, tick, with_key_typed};
 ghost use Rattle.kernel_machine.specs.RunningMachine.Leaves.{CanServe, Leaves};
 
@@ -15,8 +15,8 @@ use kernel_model::kernel_dispatch::switch;
 
 /// In a step that is a multiple of the period the clock ticks.
 pub(crate) fn tick<L: EventLog>(parts: &mut Parts, bytes: &Output, log: &mut L)
-    requires { (k : Kernel) × Stands parts.old k × CanServe k }
-    ensures left { (k : Kernel) → Stands parts.old k → CanServe k
+    requires { (k : Kernel) × RepresentsKernel parts.old k × CanServe k }
+    ensures left { (k : Kernel) → RepresentsKernel parts.old k → CanServe k
         → Leaves parts.new
         (outside bytes.now (L.noted log.old) (L.has_failed log.old))
         (outside bytes.now (L.noted log.new) (L.has_failed log.new)) (tick k) }
@@ -29,8 +29,8 @@ pub(crate) fn tick<L: EventLog>(parts: &mut Parts, bytes: &Output, log: &mut L)
 
 /// The key that is due is typed, and the first byte that is typed ahead meets the first packet that waits for one.
 pub(crate) fn key<L: EventLog>(parts: &mut Parts, bytes: &Output, log: &mut L)
-    requires { (k : Kernel) × Stands parts.old k × CanDispatch k.lists k.regs }
-    ensures left { (k : Kernel) → Stands parts.old k → CanDispatch k.lists k.regs
+    requires { (k : Kernel) × RepresentsKernel parts.old k × CanDispatch k.lists k.regs }
+    ensures left { (k : Kernel) → RepresentsKernel parts.old k → CanDispatch k.lists k.regs
         → Leaves parts.new
         (outside bytes.now (L.noted log.old) (L.has_failed log.old))
         (outside bytes.now (L.noted log.new) (L.has_failed log.new)) (key k) }
@@ -42,7 +42,8 @@ pub(crate) fn key<L: EventLog>(parts: &mut Parts, bytes: &Output, log: &mut L)
 
 // Where the first key still to come is due by now, it is typed.
 fn enter_key(parts: &mut Parts)
-    ensures typed { (k : Kernel) → Stands parts.old k → Stands parts.new (with_key_typed k) }
+    ensures typed { (k : Kernel) → RepresentsKernel parts.old k
+        → RepresentsKernel parts.new (with_key_typed k) }
     ensures keys { parts.new.keys.keys ≡ parts.old.keys.keys }
 {
     if let Some((due, byte)) = parts.keys.first() {
@@ -55,9 +56,9 @@ fn enter_key(parts: &mut Parts)
 
 /// The first packet that waits for the output device is served.
 pub(crate) fn output<L: EventLog>(parts: &mut Parts, bytes: &mut Output, log: &mut L)
-    requires stands { (k : Kernel) × Stands parts.old k × CanDispatch k.lists k.regs }
+    requires stands { (k : Kernel) × RepresentsKernel parts.old k × CanDispatch k.lists k.regs }
     requires room_for_byte { length bytes.old < 8192 }
-    ensures left { (k : Kernel) → Stands parts.old k → CanDispatch k.lists k.regs
+    ensures left { (k : Kernel) → RepresentsKernel parts.old k → CanDispatch k.lists k.regs
         → Leaves parts.new
         (outside bytes.old (L.noted log.old) (L.has_failed log.old))
         (outside bytes.new (L.noted log.new) (L.has_failed log.new)) (output k) }
@@ -68,8 +69,8 @@ pub(crate) fn output<L: EventLog>(parts: &mut Parts, bytes: &mut Output, log: &m
 
 /// The first ready task runs.
 pub(crate) fn dispatch<L: EventLog>(parts: &mut Parts, bytes: &Output, log: &mut L)
-    requires { (k : Kernel) × Stands parts.old k × CanDispatch k.lists k.regs }
-    ensures left { (k : Kernel) → Stands parts.old k → CanDispatch k.lists k.regs
+    requires { (k : Kernel) × RepresentsKernel parts.old k × CanDispatch k.lists k.regs }
+    ensures left { (k : Kernel) → RepresentsKernel parts.old k → CanDispatch k.lists k.regs
         → Leaves parts.new
         (outside bytes.now (L.noted log.old) (L.has_failed log.old))
         (outside bytes.now (L.noted log.new) (L.has_failed log.new)) (dispatch k) }

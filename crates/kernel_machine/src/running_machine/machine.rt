@@ -5,7 +5,7 @@ ghost use Rattle.kernel_model.specs.KernelRecord.HoldsLists.{HoldsLists};
 ghost use Rattle.kernel_model.specs.KernelRecord.Kernel.{Kernel};
 ghost use Rattle.kernel_model.specs.KernelRecord.Lists.{Lists};
 ghost use Rattle.kernel_model.specs.KernelRecord.ValidKernel.{IsValid};
-ghost use Rattle.kernel_machine.specs.RunningMachine.Stands.{Stands};
+ghost use Rattle.kernel_machine.specs.RunningMachine.RepresentedKernels.{RepresentsKernel};
 ghost use Rattle.kernel_machine.specs.KernelSteps.Step.{boot_events, first_events, run_events, step};
 ghost use Rattle.kernel_machine.specs.RunningMachine.Machine.{kernel_of, with_byte_typed};
 ghost use Rattle.kernel_model.specs.KernelRecord.LoggedEvents.{LogsAll};
@@ -45,8 +45,8 @@ impl Model for Machine {
 impl Machine {
     /// The machine with these parts, which has not stopped, and has no output. Its keys are all those of the script.
     pub fn from_parts(parts: Parts) -> Machine
-        requires { (k : Kernel) × Stands parts k × IsValid k × (k.stop ≡ None) }
-        ensures kernel { (k : Kernel) → Stands parts k → IsValid k → k.stop ≡ None
+        requires { (k : Kernel) × RepresentsKernel parts k × IsValid k × (k.stop ≡ None) }
+        ensures kernel { (k : Kernel) → RepresentsKernel parts k → IsValid k → k.stop ≡ None
             → result.kernel ≡ k }
         ensures keys { result.keys ≡ parts.keys.keys }
         ensures output { result.output ≡ [] }
@@ -58,18 +58,18 @@ impl Machine {
         }
     }
 
-    /// Its parts, which stand for its kernel, a valid one. The script has all its keys.
+    /// Its parts, which represent its kernel, a valid one. The script has all its keys.
     pub fn into_parts(self) -> Parts
-        ensures stands { Stands result self.kernel }
+        ensures stands { RepresentsKernel result self.kernel }
         ensures valid { IsValid self.kernel }
         ensures keys { result.keys.keys ≡ self.keys }
     {
         self.parts
     }
 
-    /// Its parts, lent. They stand for its kernel, a valid one. The script has all its keys.
+    /// Its parts, lent. They represent its kernel, a valid one. The script has all its keys.
     pub fn parts(&self) -> &Parts
-        ensures stands { Stands result.now self.now.kernel }
+        ensures stands { RepresentsKernel result.now self.now.kernel }
         ensures valid { IsValid self.now.kernel }
         ensures keys { result.now.keys.keys ≡ self.now.keys }
     {

@@ -6,7 +6,7 @@ ghost use Rattle.kernel_model.specs.KernelRecord.Kernel.{Kernel};
 ghost use Rattle.kernel_model.specs.KernelRecord.Lists.{Lists};
 ghost use Rattle.kernel_calls.specs.CallAnswers.Outside.{outside};
 ghost use Rattle.resident_tasks.specs.ResidentRequests.Requests.{RunsResident};
-ghost use Rattle.kernel_machine.specs.RunningMachine.Stands.{Stands};
+ghost use Rattle.kernel_machine.specs.RunningMachine.RepresentedKernels.{RepresentsKernel};
 ghost use Rattle.kernel_machine.specs.KernelSteps.ResidentSteps.{console_step, handler_step, reporter_step, resident_step, serves_pipes, shell_step};
 ghost use Rattle.kernel_machine.specs.RunningMachine.Leaves.{Leaves, RunsNumber, RunsNoGuest};
 
@@ -29,13 +29,13 @@ pub(crate) fn resident<L: EventLog>(
     bytes: &mut Output,
     log: &mut L,
 ) -> Option<Stop>
-    requires stands { (k : Kernel) × Stands parts.old k × RunsNoGuest task k }
+    requires stands { (k : Kernel) × RepresentsKernel parts.old k × RunsNoGuest task k }
     requires empty { bytes.old ≡ [] }
-    ensures turned { (k : Kernel) → Stands parts.old k → RunsNoGuest task k
+    ensures turned { (k : Kernel) → RepresentsKernel parts.old k → RunsNoGuest task k
         → Leaves parts.new
         (outside bytes.old (L.noted log.old) (L.has_failed log.old))
         (outside bytes.new (L.noted log.new) (L.has_failed log.new)) (resident_step task k) }
-    ensures stop { (k : Kernel) → Stands parts.old k → RunsNoGuest task k
+    ensures stop { (k : Kernel) → RepresentsKernel parts.old k → RunsNoGuest task k
         → result ≡ (resident_step task k).kernel.stop }
     ensures keys { parts.new.keys.keys ≡ parts.old.keys.keys }
     ensures disc { IsDisc parts.new.disc }
@@ -56,13 +56,13 @@ pub(crate) fn resident<L: EventLog>(
 
 // The shell's turn, which may be the last.
 fn shell<L: EventLog>(parts: &mut Parts, bytes: &mut Output, log: &mut L) -> Option<Stop>
-    requires stands { (k : Kernel) × Stands parts.old k × RunsNumber 1 k }
+    requires stands { (k : Kernel) × RepresentsKernel parts.old k × RunsNumber 1 k }
     requires empty { bytes.old ≡ [] }
-    ensures turned { (k : Kernel) → Stands parts.old k → RunsNumber 1 k
+    ensures turned { (k : Kernel) → RepresentsKernel parts.old k → RunsNumber 1 k
         → Leaves parts.new
         (outside bytes.old (L.noted log.old) (L.has_failed log.old))
         (outside bytes.new (L.noted log.new) (L.has_failed log.new)) (shell_step k) }
-    ensures stop { (k : Kernel) → Stands parts.old k → RunsNumber 1 k
+    ensures stop { (k : Kernel) → RepresentsKernel parts.old k → RunsNumber 1 k
         → result ≡ (shell_step k).kernel.stop }
     ensures keys { parts.new.keys.keys ≡ parts.old.keys.keys }
     ensures disc { IsDisc parts.new.disc }
@@ -82,9 +82,9 @@ fn shell<L: EventLog>(parts: &mut Parts, bytes: &mut Output, log: &mut L) -> Opt
 
 // The task that reports faults.
 fn report<L: EventLog>(parts: &mut Parts, bytes: &mut Output, log: &mut L)
-    requires stands { (k : Kernel) × Stands parts.old k × RunsNumber 2 k }
+    requires stands { (k : Kernel) × RepresentsKernel parts.old k × RunsNumber 2 k }
     requires empty { bytes.old ≡ [] }
-    ensures turned { (k : Kernel) → Stands parts.old k → RunsNumber 2 k
+    ensures turned { (k : Kernel) → RepresentsKernel parts.old k → RunsNumber 2 k
         → Leaves parts.new
         (outside bytes.old (L.noted log.old) (L.has_failed log.old))
         (outside bytes.new (L.noted log.new) (L.has_failed log.new)) (reporter_step k) }
@@ -111,9 +111,9 @@ fn know_numbers(words: &[u32])
 
 // The console.
 fn console<L: EventLog>(parts: &mut Parts, bytes: &mut Output, log: &mut L)
-    requires stands { (k : Kernel) × Stands parts.old k × RunsNumber 3 k }
+    requires stands { (k : Kernel) × RepresentsKernel parts.old k × RunsNumber 3 k }
     requires empty { bytes.old ≡ [] }
-    ensures turned { (k : Kernel) → Stands parts.old k → RunsNumber 3 k
+    ensures turned { (k : Kernel) → RepresentsKernel parts.old k → RunsNumber 3 k
         → Leaves parts.new
         (outside bytes.old (L.noted log.old) (L.has_failed log.old))
         (outside bytes.new (L.noted log.new) (L.has_failed log.new)) (console_step k) }
@@ -135,8 +135,8 @@ fn console<L: EventLog>(parts: &mut Parts, bytes: &mut Output, log: &mut L)
 
 // The file handler, which in version 2 serves requests for pipes too.
 fn handle<L: EventLog>(parts: &mut Parts, bytes: &Output, log: &mut L)
-    requires { (k : Kernel) × Stands parts.old k × RunsNumber 4 k }
-    ensures turned { (k : Kernel) → Stands parts.old k → RunsNumber 4 k
+    requires { (k : Kernel) × RepresentsKernel parts.old k × RunsNumber 4 k }
+    ensures turned { (k : Kernel) → RepresentsKernel parts.old k → RunsNumber 4 k
         → Leaves parts.new
         (outside bytes.now (L.noted log.old) (L.has_failed log.old))
         (outside bytes.now (L.noted log.new) (L.has_failed log.new)) (handler_step k) }

@@ -4,7 +4,7 @@ ghost use Rattle.kernel_model.specs.KernelRecord.Ranges.{most_steps};
 ghost use Rattle.kernel_model.specs.KernelRecord.Kernel.{Kernel};
 ghost use Rattle.kernel_model.specs.KernelRecord.ValidKernel.{IsValid};
 ghost use Rattle.kernel_calls.specs.CallAnswers.Outside.{outside};
-ghost use Rattle.kernel_machine.specs.RunningMachine.Stands.{Stands};
+ghost use Rattle.kernel_machine.specs.RunningMachine.RepresentedKernels.{RepresentsKernel};
 ghost use Rattle.kernel_machine.specs.KernelSteps.Parts.{IsTaken};
 ghost use Rattle.kernel_machine.specs.KernelSteps.Step.{after_the_turn, step};
 ghost use Rattle.kernel_machine.specs.RunningMachine.Leaves.{CanServe, Leaves};
@@ -23,19 +23,19 @@ pub(crate) fn step_or_stay<L: EventLog>(
     bytes: &mut Output,
     log: &mut L,
 ) -> Option<Stop>
-    requires stands { (k : Kernel) × Stands parts.old k × IsValid k
+    requires stands { (k : Kernel) × RepresentsKernel parts.old k × IsValid k
         × (stop ≡ k.stop) × (k.steps < most_steps) }
     requires empty { bytes.old ≡ [] }
-    ensures stepped { (k : Kernel) → Stands parts.old k → IsValid k
+    ensures stepped { (k : Kernel) → RepresentsKernel parts.old k → IsValid k
         → stop ≡ k.stop
         → k.steps < most_steps → Leaves parts.new
         (outside bytes.old (L.noted log.old) (L.has_failed log.old))
         (outside bytes.new (L.noted log.new) (L.has_failed log.new)) (step k) }
-    ensures stop { (k : Kernel) → Stands parts.old k → IsValid k
+    ensures stop { (k : Kernel) → RepresentsKernel parts.old k → IsValid k
         → stop ≡ k.stop
         → k.steps < most_steps → result ≡ (step k).kernel.stop }
     ensures keys { parts.new.keys.keys ≡ parts.old.keys.keys }
-    ensures taken { (k : Kernel) → Stands parts.old k → IsValid k → k.stop ≡ None
+    ensures taken { (k : Kernel) → RepresentsKernel parts.old k → IsValid k → k.stop ≡ None
         → stop ≡ k.stop
         → k.steps < most_steps → IsTaken k }
 {
@@ -47,17 +47,17 @@ pub(crate) fn step_or_stay<L: EventLog>(
 
 // One step of a machine that has not stopped. The answer is why it stops in this step, if it does.
 fn step<L: EventLog>(parts: &mut Parts, bytes: &mut Output, log: &mut L) -> Option<Stop>
-    requires stands { (k : Kernel) × Stands parts.old k × IsValid k × (k.stop ≡ None)
+    requires stands { (k : Kernel) × RepresentsKernel parts.old k × IsValid k × (k.stop ≡ None)
         × (k.steps < most_steps) }
     requires empty { bytes.old ≡ [] }
-    ensures stepped { (k : Kernel) → Stands parts.old k → IsValid k → k.stop ≡ None
+    ensures stepped { (k : Kernel) → RepresentsKernel parts.old k → IsValid k → k.stop ≡ None
         → k.steps < most_steps → Leaves parts.new
         (outside bytes.old (L.noted log.old) (L.has_failed log.old))
         (outside bytes.new (L.noted log.new) (L.has_failed log.new)) (step k) }
-    ensures stop { (k : Kernel) → Stands parts.old k → IsValid k → k.stop ≡ None
+    ensures stop { (k : Kernel) → RepresentsKernel parts.old k → IsValid k → k.stop ≡ None
         → k.steps < most_steps → result ≡ (step k).kernel.stop }
     ensures keys { parts.new.keys.keys ≡ parts.old.keys.keys }
-    ensures taken { (k : Kernel) → Stands parts.old k → IsValid k → k.stop ≡ None
+    ensures taken { (k : Kernel) → RepresentsKernel parts.old k → IsValid k → k.stop ≡ None
         → k.steps < most_steps → IsTaken k }
 {
     parts.step += 1;
@@ -70,9 +70,9 @@ fn step<L: EventLog>(parts: &mut Parts, bytes: &mut Output, log: &mut L) -> Opti
 
 // The devices, and then dispatch.
 fn serve<L: EventLog>(parts: &mut Parts, bytes: &mut Output, log: &mut L)
-    requires stands { (k : Kernel) × Stands parts.old k × CanServe k }
+    requires stands { (k : Kernel) × RepresentsKernel parts.old k × CanServe k }
     requires room_for_byte { length bytes.old < 8192 }
-    ensures served { (k : Kernel) → Stands parts.old k → CanServe k → Leaves parts.new
+    ensures served { (k : Kernel) → RepresentsKernel parts.old k → CanServe k → Leaves parts.new
         (outside bytes.old (L.noted log.old) (L.has_failed log.old))
         (outside bytes.new (L.noted log.new) (L.has_failed log.new)) (after_the_turn k) }
     ensures keys { parts.new.keys.keys ≡ parts.old.keys.keys }

@@ -5,7 +5,7 @@ ghost use Rattle.kernel_model.specs.KernelRecord.Kernel.{Kernel};
 ghost use Rattle.kernel_model.specs.KernelRecord.HoldsLists.{HoldsLists};
 ghost use Rattle.kernel_model.specs.KernelRecord.Lists.{Lists};
 ghost use Rattle.kernel_calls.specs.CallAnswers.Outside.{outside};
-ghost use Rattle.kernel_machine.specs.RunningMachine.Stands.{Stands};
+ghost use Rattle.kernel_machine.specs.RunningMachine.RepresentedKernels.{RepresentsKernel};
 ghost use Rattle.kernel_machine.specs.KernelSteps.GuestSteps.{guest_step, is_recorded, stop_by};
 ghost use Rattle.kernel_machine.specs.KernelSteps.Parts.{CanTurn};
 ghost use Rattle.kernel_machine.specs.KernelSteps.Step.{turn};
@@ -28,13 +28,13 @@ const KERNEL_WORD: u32 = 6;
 /// The running guest's instruction, call, or end of its function, or the running resident's turn; nothing where nobody runs. The
 /// answer is why the machine stops, if it does.
 pub(crate) fn turn<L: EventLog>(parts: &mut Parts, bytes: &mut Output, log: &mut L) -> Option<Stop>
-    requires stands { (k : Kernel) × Stands parts.old k × CanTurn k }
+    requires stands { (k : Kernel) × RepresentsKernel parts.old k × CanTurn k }
     requires empty { bytes.old ≡ [] }
-    ensures turned { (k : Kernel) → Stands parts.old k → CanTurn k
+    ensures turned { (k : Kernel) → RepresentsKernel parts.old k → CanTurn k
         → Leaves parts.new
         (outside bytes.old (L.noted log.old) (L.has_failed log.old))
         (outside bytes.new (L.noted log.new) (L.has_failed log.new)) (turn k) }
-    ensures stop { (k : Kernel) → Stands parts.old k → CanTurn k
+    ensures stop { (k : Kernel) → RepresentsKernel parts.old k → CanTurn k
         → result ≡ (turn k).kernel.stop }
     ensures keys { parts.new.keys.keys ≡ parts.old.keys.keys }
     ensures disc { IsDisc parts.new.disc }
@@ -49,13 +49,13 @@ pub(crate) fn turn<L: EventLog>(parts: &mut Parts, bytes: &mut Output, log: &mut
 
 // The running guest's turn. Where a task reports faults, a fault is recorded, unless it is a write into a word of the kernel's.
 fn guest<L: EventLog>(parts: &mut Parts, task: u32, bytes: &mut Output, log: &mut L) -> Option<Stop>
-    requires stands { (k : Kernel) × Stands parts.old k × RunsGuest task k }
+    requires stands { (k : Kernel) × RepresentsKernel parts.old k × RunsGuest task k }
     requires empty { bytes.old ≡ [] }
-    ensures turned { (k : Kernel) → Stands parts.old k → RunsGuest task k
+    ensures turned { (k : Kernel) → RepresentsKernel parts.old k → RunsGuest task k
         → Leaves parts.new
         (outside bytes.old (L.noted log.old) (L.has_failed log.old))
         (outside bytes.new (L.noted log.new) (L.has_failed log.new)) (guest_step k) }
-    ensures stop { (k : Kernel) → Stands parts.old k → RunsGuest task k
+    ensures stop { (k : Kernel) → RepresentsKernel parts.old k → RunsGuest task k
         → result ≡ (guest_step k).kernel.stop }
     ensures keys { parts.new.keys.keys ≡ parts.old.keys.keys }
 {

@@ -75,7 +75,7 @@ module _ (l : Lists) (front back : List LoadedModule) (m : LoadedModule) (v : Ar
   pub new_module-valid : l.modules ≡ front ++ back → HasBlock l.blocks m.address (last_module_word m) → AreUnowned l m.address (m.address + 2 + length m.lengths)
       → AreValid (with_modules (front ++ m ∷ back) l)
   new_module-valid is block unowned =
-      modules-valid l (front ++ m ∷ back) v (all-between Stands front m back block (subst (AllByRecursion Stands) is v.modules))
+      modules-valid l (front ++ m ∷ back) v (all-between IsInBlock front m back block (subst (AllByRecursion IsInBlock) is v.modules))
       (all-always (λ t. AllByRecursion (HasModule l) t.modules → AllByRecursion (HasModule (with_modules (front ++ m ∷ back) l)) t.modules)
       (λ t all. all-each (HasModule l) (HasModule (with_modules (front ++ m ∷ back) l)) keeps t.modules all) l.tasks)
       (owns-more l (with_modules (front ++ m ∷ back) l) (module_words m 0) refl count once fresh v.owns)
@@ -83,8 +83,8 @@ module _ (l : Lists) (front back : List LoadedModule) (m : LoadedModule) (v : Ar
       k : ℕ
       k = suc (suc (length m.lengths))
 
-      Stands : LoadedModule → Type 0
-      Stands x = HasBlock l.blocks x.address (last_module_word x)
+      IsInBlock : LoadedModule → Type 0
+      IsInBlock x = HasBlock l.blocks x.address (last_module_word x)
 
       keeps : (a : ℕ) → HasModule l a → HasModule (with_modules (front ++ m ∷ back) l) a
       keeps a some =
@@ -125,12 +125,12 @@ module _ (l : Lists) (front back : List LoadedModule) (m : LoadedModule) (v : Ar
 
   pub gone_module-valid : l.modules ≡ front ++ m ∷ back → AllByRecursion (λ t. has m.address t.modules ≡ false) l.tasks → AreValid (with_modules (front ++ back) l)
   gone_module-valid is unused =
-      modules-valid l (front ++ back) v (all-beside Stands front m back (subst (AllByRecursion Stands) is v.modules))
+      modules-valid l (front ++ back) v (all-beside IsInBlock front m back (subst (AllByRecursion IsInBlock) is v.modules))
       (all-each (λ t. has m.address t.modules ≡ false) (λ t. AllByRecursion (HasModule l) t.modules → AllByRecursion (HasModule (with_modules (front ++ back) l)) t.modules) keep l.tasks unused)
       (owns-without l (with_modules (front ++ back) l) (λ a. owners a (module_words m 0)) refl (gone-count is) v.owns)
     where
-      Stands : LoadedModule → Type 0
-      Stands x = HasBlock l.blocks x.address (last_module_word x)
+      IsInBlock : LoadedModule → Type 0
+      IsInBlock x = HasBlock l.blocks x.address (last_module_word x)
 
       keeps : (a : ℕ) → HasModule l a → eqb a m.address ≡ false → HasModule (with_modules (front ++ back) l) a
       keeps a some other =

@@ -6,7 +6,7 @@ use Rattle.std.proofs.lemmas.List.{get_or-set_other, get_or-set_same, length-tak
 use Rattle.kernel_model.specs.KernelRecord.Kernel.{Pipe}
 use Rattle.kernel_model.specs.KernelRecord.Pipes.{ArePipes, most_held, pipe_at}
 use Rattle.resident_tasks.specs.PipeHandler.Ends.{is_end, is_open, names_writer, opened, pipe_of, place_for, place_of, without_end}
-use Rattle.resident_tasks.specs.PipeHandler.Histories.{History, PipeRequest, StandsFor, after, history_after, history_of, pipes_after, read_from, with_more, written_to}
+use Rattle.resident_tasks.specs.PipeHandler.Histories.{History, IsHistoryOf, PipeRequest, after, history_after, history_of, pipes_after, read_from, with_more, written_to}
 use Rattle.resident_tasks.specs.PipeHandler.Histories.PipeRequest.{Close, Open, Read, Write}
 use Rattle.resident_tasks.specs.PipeHandler.PipeCalls.{Outcome, accepted, fitting, has_more, held_by, holding, pipe_in_place, with_end}
 use Rattle.resident_tasks.proofs.PipeHandler.AfterRequests.{HasRoom, by-tests, closed-held, end-place, opened-held, room-after, some-is}
@@ -143,16 +143,16 @@ rooms : (rs : List PipeRequest) (ps : List (Option Pipe)) → HasRoom ps → Has
 rooms [] ps room = room
 rooms (r ∷ rs) ps room = rooms rs (after ps r).pipes (room-after ps r room)
 
-account-of : (o : Option Pipe) (h : History) → StandsFor h o → Accounts o h
+account-of : (o : Option Pipe) (h : History) → IsHistoryOf h o → Accounts o h
 account-of None h stands = refl
 account-of (Some p) h stands = stands
 
-stands-for : (o : Option Pipe) (h : History) → h.written ≡ h.read ++ held_by o → StandsFor h o
+stands-for : (o : Option Pipe) (h : History) → h.written ≡ h.read ++ held_by o → IsHistoryOf h o
 stands-for None h account = tt
 stands-for (Some p) h account = account
 
-pub pipe-bytes : (ps : List (Option Pipe)) (i : ℕ) (h : History) (rs : List PipeRequest) → StandsFor h (pipe_at ps i)
-    → StandsFor (history_after i ps h rs) (pipe_at (pipes_after ps rs) i)
+pub pipe-bytes : (ps : List (Option Pipe)) (i : ℕ) (h : History) (rs : List PipeRequest) → IsHistoryOf h (pipe_at ps i)
+    → IsHistoryOf (history_after i ps h rs) (pipe_at (pipes_after ps rs) i)
 pipe-bytes ps i h rs stands = stands-for (pipe_at (pipes_after ps rs) i) (history_after i ps h rs) (accounts rs ps i h (account-of (pipe_at ps i) h stands))
 
 lawful-room : (ps : List (Option Pipe)) → ArePipes ps → HasRoom ps

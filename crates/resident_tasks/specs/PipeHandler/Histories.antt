@@ -53,9 +53,9 @@ abbrev pub no_history : History
 no_history = record { written = []; read = [] }
 
 -- what was written to the pipe is what was read from it, and then what it holds
-abbrev pub StandsFor : History → Option Pipe → Type 0
-StandsFor h None = Unit {0}
-StandsFor h (Some p) = h.written ≡ h.read ++ p.held
+abbrev pub IsHistoryOf : History → Option Pipe → Type 0
+IsHistoryOf h None = Unit {0}
+IsHistoryOf h (Some p) = h.written ≡ h.read ++ p.held
 
 -- where the pipe is not there, its history begins anew
 abbrev pub history_of : Option Pipe → History → History

@@ -32,7 +32,8 @@ pub(crate) fn take_key<Q: KindKeeper, L: EventLog>(
         (outside bytes.old (L.noted log.old) (L.has_failed log.old)) state.old k g
         → FindsKeys g.lists
         → IsDone b store.new (Q.tells kinds.now) (Q.room kinds.now)
-        (outside bytes.new (L.noted log.new) (L.has_failed log.new)) state.new k (with_key awaited g) }
+        (outside bytes.new (L.noted log.new) (L.has_failed log.new)) state.new k
+        (with_key awaited g) }
 {
     let key = take_keys(store, log);
     let flags = state.press(key, bytes);

@@ -76,7 +76,8 @@ fn is_fault_first(store: &Store) -> bool
 
 // The fault packet is taken, and all faults are reported.
 fn report_faults<L: EventLog>(store: &mut Store, bytes: &mut Output, log: &mut L)
-    requires { (l : Lists) × HoldsLists store.old l × CanReport bytes.old l × IsFaultFirst (work l) }
+    requires { (l : Lists) × HoldsLists store.old l × CanReport bytes.old l
+        × IsFaultFirst (work l) }
     ensures lists { (l : Lists) → HoldsLists store.old l → CanReport bytes.old l
         → IsFaultFirst (work l)
         → OwnsSame store.old store.new l (finished (all_reported (fault_taken_from (work l) l))) }

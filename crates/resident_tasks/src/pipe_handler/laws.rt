@@ -4,7 +4,7 @@ ghost use Rattle.kernel_model.specs.KernelRecord.Kernel.{Pipe};
 ghost use Rattle.kernel_model.specs.KernelRecord.Lists.{Lists};
 ghost use Rattle.kernel_model.specs.KernelRecord.Pipes.{ArePipes, most_held, pipe_at};
 ghost use Rattle.resident_tasks.specs.declared.resident_requests.requests.Request.{Request};
-ghost use Rattle.resident_tasks.specs.PipeHandler.Histories.{History, IsLawful, PipeRequest, StandsFor, after, history_after, pipes_after};
+ghost use Rattle.resident_tasks.specs.PipeHandler.Histories.{History, IsHistoryOf, IsLawful, PipeRequest, after, history_after, pipes_after};
 ghost use Rattle.resident_tasks.specs.PipeHandler.PacketRequests.{asked, outcome_of, requests_in_turn};
 ghost use Rattle.resident_tasks.specs.PipeHandler.PipeTurns.{pipe_request, pipes_after_turn};
 
@@ -13,8 +13,8 @@ ghost use Rattle.resident_tasks.specs.PipeHandler.PipeTurns.{pipe_request, pipes
 /// what was written.
 pub fn pipe_law()
     ensures bytes { (ps : List (Option Pipe)) (i : ℕ) (h : History) (rs : List PipeRequest)
-        → StandsFor h (pipe_at ps i)
-        → StandsFor (history_after i ps h rs) (pipe_at (pipes_after ps rs) i) }
+        → IsHistoryOf h (pipe_at ps i)
+        → IsHistoryOf (history_after i ps h rs) (pipe_at (pipes_after ps rs) i) }
     ensures room { (ps : List (Option Pipe)) (i : ℕ) (rs : List PipeRequest) (p : Pipe)
         → ArePipes ps → pipe_at (pipes_after ps rs) i ≡ Some p → length p.held ≤ most_held }
 {}

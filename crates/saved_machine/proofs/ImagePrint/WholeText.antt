@@ -9,7 +9,7 @@ use Rattle.kernel_model.specs.KernelRecord.Lists.{Lists}
 use Rattle.kernel_model.specs.KernelRecord.Recovered.{lists_in}
 use Rattle.kernel_model.specs.KernelRecord.ValidKernel.{IsValid}
 use Rattle.kernel_machine.specs.RunningMachine.Script.{still_to_come}
-use Rattle.kernel_machine.specs.RunningMachine.Stands.{Stands}
+use Rattle.kernel_machine.specs.RunningMachine.RepresentedKernels.{RepresentsKernel}
 use Rattle.kernel_machine.specs.declared.running_machine.parts.Parts.{Parts as KernelParts}
 use Rattle.tripos_machine.specs.State.{IsBare, State, regs_of, steps_of, words_of}
 use Rattle.tripos_machine.specs.State.State.{Bare, Full}
@@ -75,13 +75,13 @@ kernel-text k go valid =
 -- ---- the parts of a machine
 
 -- the word of the version
-pub version-read : (p : KernelParts) (k : Kernel) → Stands p k → get_or p.store 111 0 ≡ k.lists.version
+pub version-read : (p : KernelParts) (k : Kernel) → RepresentsKernel p k → get_or p.store 111 0 ≡ k.lists.version
 unfolding lists_in
 version-read p k stands =
     let h = stands.keeper.lists in
     ap (λ (l : Lists). l.version) (lists-back p.store k.lists h.valid h.size h.holds)
 
-module _ (p : KernelParts) (k : Kernel) (stands : Stands p k) where
+module _ (p : KernelParts) (k : Kernel) (stands : RepresentsKernel p k) where
   -- the text of the parts is that of the kernel: up to the files,
   pub front-same : text_of_lines (head_lines (get_or p.store 111 0) (length p.store) false p.period p.step p.regs) ++ text_of_lines (resident_lines p.tty p.console p.shell) ≡ front_text k
   front-same =

@@ -1,7 +1,7 @@
 -- The machine that was saved.
 use Rattle.std.proofs.Common.{◌≡◌, ◌+◌, ◌&&◌, Bool, true, false, cond, ltb, refl, sym, ap, ◌∙◌, subst, arith, length}
 use Rattle.std.proofs.lemmas.Bool.{and_parts, leb-true, ltb-true}
-use Rattle.store_claims.specs.AdoptionLaw.Adoption.{StandsFor, kernel_in}
+use Rattle.store_claims.specs.AdoptionLaw.Adoption.{StoreRepresentsKernel, kernel_in}
 use Rattle.store_claims.proofs.AdoptionLaw.OneKernel.{one-kernel-in}
 use Rattle.kernel_model.specs.KernelRecord.HoldsLists.{HoldsLists}
 use Rattle.kernel_model.specs.KernelRecord.Image.{IsImage}
@@ -12,7 +12,7 @@ use Rattle.kernel_model.proofs.KernelRecord.ImageWords.{image-list}
 use Rattle.bare_machine.proofs.WordCounts.{any-size}
 use Rattle.bare_machine.specs.State.{BareState, going}
 use Rattle.kernel_machine.specs.RunningMachine.Script.{still_to_come}
-use Rattle.kernel_machine.specs.RunningMachine.Stands.{Stands}
+use Rattle.kernel_machine.specs.RunningMachine.RepresentedKernels.{RepresentsKernel}
 use Rattle.kernel_machine.specs.declared.running_machine.parts.Parts.{Parts}
 use Rattle.tripos_machine.specs.State.{IsSound, State, regs_of, steps_of, words_of}
 use Rattle.tripos_machine.specs.State.State.{Bare, Full}
@@ -44,7 +44,7 @@ module _ (x : Image) (bare : x.bare ≡ true) (lawful : IsLawful x) where
 -- ---- a machine with a kernel
 
 -- the parts stand for the kernel
-pub parts-stand : (x : Image) (p : Parts) (k : Kernel) → AreParts x p → IsValid k → StandsFor x.store (others_of x) k → Stands p k
+pub parts-stand : (x : Image) (p : Parts) (k : Kernel) → AreParts x p → IsValid k → StoreRepresentsKernel x.store (others_of x) k → RepresentsKernel p k
 parts-stand x p k m v st =
     let held : HoldsLists x.store k.lists = record { valid = v.lists; size = st.image.size; holds = st.image.holds } in
     record {
@@ -68,7 +68,7 @@ parts-stand x p k m v st =
       period = m.period ∙ sym st.period;
     }
 
-pub full-machine : (x : Image) (s : State) (k : Kernel) → x.bare ≡ false → IsValid k → StandsFor x.store (others_of x) k → s ≡ Full k → IsMachineOf x s
+pub full-machine : (x : Image) (s : State) (k : Kernel) → x.bare ≡ false → IsValid k → StoreRepresentsKernel x.store (others_of x) k → s ≡ Full k → IsMachineOf x s
 full-machine x s k full v st is = subst (λ b. IsOfKind b x s) (sym full) (subst (IsOfKind false x) (sym is) (v, st))
 
 -- ---- the law

@@ -1,6 +1,6 @@
 -- The machine that a saved machine's text stands for.
 use Rattle.std.specs.Prelude.{◌≡◌, ℕ, if◌then◌else◌, Bool, true, false, List, [], length}
-use Rattle.store_claims.specs.AdoptionLaw.Adoption.{IsAdopted, StandsFor, kernel_in}
+use Rattle.store_claims.specs.AdoptionLaw.Adoption.{IsAdopted, StoreRepresentsKernel, kernel_in}
 use Rattle.kernel_model.specs.KernelRecord.Lists.{Lists}
 use Rattle.kernel_model.specs.KernelRecord.ValidKernel.{IsValid}
 use Rattle.kernel_model.specs.WordKinds.ByteMap.{MarksAll}
@@ -19,7 +19,7 @@ use Rattle.saved_machine.specs.MachineImage.Parts.{console_of, disc_with, others
 -- all else; neither has stopped
 abbrev pub IsOfKind : Bool → Image → State → Type 0
 IsOfKind true x (Bare m) = m ≡ going x.store x.regs x.step
-IsOfKind false x (Full k) = IsValid k × StandsFor x.store (others_of x) k
+IsOfKind false x (Full k) = IsValid k × StoreRepresentsKernel x.store (others_of x) k
 IsOfKind _ x s = ⊥
 
 -- the state is that of the machine that was saved

@@ -7,7 +7,7 @@ ghost use Rattle.ram_disc.specs.Disc.{IsDisc, file_named};
 ghost use Rattle.kernel_model.specs.KernelRecord.Kernel.{Kernel};
 ghost use Rattle.kernel_model.specs.KernelRecord.Pipes.{ArePipes};
 ghost use Rattle.kernel_model.specs.KernelRecord.ValidKernel.{IsValid};
-ghost use Rattle.kernel_machine.specs.RunningMachine.Stands.{Stands};
+ghost use Rattle.kernel_machine.specs.RunningMachine.RepresentedKernels.{RepresentsKernel};
 ghost use Rattle.resident_tasks.specs.PipeHandler.PipeCalls.{pipe_numbered};
 ghost use Rattle.saved_machine.specs.ImagePrint.Numbers.{AreWords, HasWordsAndBytes, HoldsBytes, KeepsBytes};
 
@@ -35,8 +35,8 @@ pub(crate) fn know_numbers(machine: &Machine)
 
 // What a kernel keeps outside the store are bytes.
 fn know_parts(parts: &KernelParts)
-    requires { (k : Kernel) × Stands parts.now k × IsValid k }
-    ensures { (k : Kernel) → Stands parts.now k → IsValid k → KeepsBytes k }
+    requires { (k : Kernel) × RepresentsKernel parts.now k × IsValid k }
+    ensures { (k : Kernel) → RepresentsKernel parts.now k → IsValid k → KeepsBytes k }
 {
     know_bytes(parts.tty.bytes().as_slice());
     know_bytes(parts.console.line());

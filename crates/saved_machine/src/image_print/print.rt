@@ -4,7 +4,7 @@ ghost use Rattle.ram_disc.specs.Disc.{IsDisc};
 ghost use Rattle.byte_streams.specs.Sinks.{FailsBySink, GathersFor};
 ghost use Rattle.kernel_model.specs.KernelRecord.Kernel.{Kernel};
 ghost use Rattle.kernel_model.specs.KernelRecord.ValidKernel.{IsValid};
-ghost use Rattle.kernel_machine.specs.RunningMachine.Stands.{Stands};
+ghost use Rattle.kernel_machine.specs.RunningMachine.RepresentedKernels.{RepresentsKernel};
 ghost use Rattle.tripos_machine.specs.State.{IsBare, IsSound};
 ghost use Rattle.saved_machine.specs.ImagePrint.Numbers.{HasWordsAndBytes, IsSized, MayTake};
 ghost use Rattle.saved_machine.specs.ImagePrint.SavedImage.{saved_image, saved_kernel};
@@ -80,8 +80,8 @@ fn print_kernel<K: Sink>(
     out: &mut K,
     pending: &mut Output,
 ) -> Result<(), SinkFault>
-    requires { (k : Kernel) × Stands parts.now k × IsValid k }
-    ensures text { (k : Kernel) → Stands parts.now k → IsValid k
+    requires { (k : Kernel) × RepresentsKernel parts.now k × IsValid k }
+    ensures text { (k : Kernel) → RepresentsKernel parts.now k → IsValid k
         → GathersFor K.Sink out.old out.new pending.old pending.new
         (canonical (saved_kernel k go)) result }
     ensures cause { FailsBySink K.Sink out.old out.new result }
@@ -97,8 +97,8 @@ fn print_front<K: Sink>(
     out: &mut K,
     pending: &mut Output,
 ) -> Result<(), SinkFault>
-    requires { (k : Kernel) × Stands parts.now k × IsValid k }
-    ensures text { (k : Kernel) → Stands parts.now k → IsValid k
+    requires { (k : Kernel) × RepresentsKernel parts.now k × IsValid k }
+    ensures text { (k : Kernel) → RepresentsKernel parts.now k → IsValid k
         → GathersFor K.Sink out.old out.new pending.old pending.new
         (front_text k) result }
     ensures cause { FailsBySink K.Sink out.old out.new result }
@@ -123,8 +123,8 @@ fn print_entries<K: Sink>(
     out: &mut K,
     pending: &mut Output,
 ) -> Result<(), SinkFault>
-    requires { (k : Kernel) × Stands parts.now k × IsValid k }
-    ensures text { (k : Kernel) → Stands parts.now k → IsValid k
+    requires { (k : Kernel) × RepresentsKernel parts.now k × IsValid k }
+    ensures text { (k : Kernel) → RepresentsKernel parts.now k → IsValid k
         → GathersFor K.Sink out.old out.new pending.old pending.new
         (entries_text k) result }
     ensures cause { FailsBySink K.Sink out.old out.new result }

@@ -11,7 +11,7 @@ use Rattle.kernel_model.specs.KernelRecord.Running.{RunsAlive}
 use Rattle.kernel_calls.proofs.TaskCalls.ReadNumbers.{highest-read}
 use Rattle.kernel_model.specs.KernelRecord.Standing.{Standing, standing}
 use Rattle.shell.specs.ShellPrograms.ClearedTasks.{cleared, cleared_all, cleared_at}
-use Rattle.shell.specs.ShellPrograms.Standings.{HasStanding}
+use Rattle.shell.specs.ShellPrograms.Standings.{RepresentsStanding}
 use Rattle.shell.proofs.ShellPrograms.KeptSteps.{one-cleared}
 use Rattle.shell.proofs.ShellPrograms.KeptTasks.{all-without}
 
@@ -30,7 +30,7 @@ first-numbers s l end n h is e =
     let count : end - 5 ≡ highest_id_of l.version - 4 = omega (arith, is, e, highest-read s l h, highest-low l.version) in
     ap (λ n. cleared_all (range_with_len 5 n) (standing s l)) count
 
-pub next-number : (s t : List ℕ) (l : Lists) (tells : List ℕ → Type 0) (room i end : ℕ) → i < end → HasStanding t tells room (cleared_at i (standing s l))
+pub next-number : (s t : List ℕ) (l : Lists) (tells : List ℕ → Type 0) (room i end : ℕ) → i < end → RepresentsStanding t tells room (cleared_at i (standing s l))
     → rest_of (i + 1) end (standing t (cleared_at i (standing s l)).lists) ≡ rest_of i end (standing s l)
 next-number s t l tells room i end lt h =
     let count : end - i ≡ suc (end - (i + 1)) = omega (arith, lt) in

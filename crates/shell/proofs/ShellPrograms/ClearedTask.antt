@@ -16,7 +16,7 @@ use Rattle.kernel_calls.specs.TaskCalls.DeleteTask.{delete_task}
 use Rattle.kernel_model.specs.KernelRecord.Standing.{Standing, standing}
 use Rattle.kernel_boot.proofs.StartedTasks.{guest-away}
 use Rattle.shell.specs.ShellPrograms.ClearedTasks.{after_deletion, cleared_at, cleared_task, deleted, first_module_of}
-use Rattle.shell.specs.ShellPrograms.Standings.{HasStanding, left_by}
+use Rattle.shell.specs.ShellPrograms.Standings.{RepresentsStanding, left_by}
 use Rattle.shell.proofs.ShellPrograms.MadeStandings.{made-after, made-standing, same-standing}
 
 none-found : (id : ℕ) (ts : List Task) → has_task id ts ≡ false → find (λ t. eqb t.id id) ts ≡ None
@@ -29,7 +29,7 @@ none-found id (t ∷ ts) e = on (eqb t.id id) e (none-found id ts)
 
 module _ (s : List ℕ) (l : Lists) (id : ℕ) (tells : List ℕ → Type 0) (room : ℕ) (k : HasKeeper s tells room l) where
   -- there is no such task
-  pub cleared-none : (r : Result ℕ ℕ) → IsGuestOf l id r → 5 ≤ id → is_ok r ≡ false → HasStanding s tells room (cleared_at id (standing s l))
+  pub cleared-none : (r : Result ℕ ℕ) → IsGuestOf l id r → 5 ≤ id → is_ok r ≡ false → RepresentsStanding s tells room (cleared_at id (standing s l))
   cleared-none r g low e =
       same-standing s tells room l (cleared_at id (standing s l)) k
       (ap (λ o. cleared_task id o (standing s l)) (none-found id l.tasks (guest-away l id r g low e)))
@@ -48,7 +48,7 @@ module _ (s : List ℕ) (l : Lists) (id : ℕ) (tells : List ℕ → Type 0) (ro
     module-read = ap (λ a. get_or s (a + 10) 0) (sym g.at) ∙ words.1.1.1.1.1.1.0
 
     -- the shell has not made it
-    pub cleared-other : get_or s (address + 9) 0 ≢ 1 → HasStanding s tells room (cleared_at id (standing s l))
+    pub cleared-other : get_or s (address + 9) 0 ≢ 1 → RepresentsStanding s tells room (cleared_at id (standing s l))
     cleared-other other =
         same-standing s tells room l (cleared_at id (standing s l)) k
         (ap (λ o. cleared_task id o (standing s l)) found
@@ -66,15 +66,15 @@ module _ (s : List ℕ) (l : Lists) (id : ℕ) (tells : List ℕ → Type 0) (ro
         abbrev left : Standing
         left = left_by s (delete_task l id)
 
-        now : (after : ℕ) → after ≡ room → HasStanding t told after left
+        now : (after : ℕ) → after ≡ room → RepresentsStanding t told after left
         now after same = made-standing s t told after (plain_answer r) (delete_task l id) made (omega (arith, same, k.enough))
 
         pub deleted-keeper : (after : ℕ) → after ≡ room → HasKeeper t told after (delete_task l id).lists
         deleted-keeper after same = (now after same).keeper
 
         -- it is refused
-        pub cleared-refused : (after : ℕ) → after ≡ room → is_ok r ≡ false → HasStanding t told after (cleared_at id (standing s l))
-        cleared-refused after same e = subst (HasStanding t told after) (sym (cleared-is ∙ on r e made.leaves.answered)) (now after same)
+        pub cleared-refused : (after : ℕ) → after ≡ room → is_ok r ≡ false → RepresentsStanding t told after (cleared_at id (standing s l))
+        cleared-refused after same e = subst (RepresentsStanding t told after) (sym (cleared-is ∙ on r e made.leaves.answered)) (now after same)
           where
             on : (r : Result (Unit {0}) ℕ) → is_ok r ≡ false → plain_answer r ≡ (delete_task l id).answer → deleted id m (standing s l) ≡ left
             on (Ok u) e a = cc
@@ -82,9 +82,9 @@ module _ (s : List ℕ) (l : Lists) (id : ℕ) (tells : List ℕ → Type 0) (ro
 
         -- it is accepted, and the module is unloaded where the call accepts
         pub cleared-whole : (u : List ℕ) (more : List ℕ → Type 0) (after : ℕ) (q : Result ℕ ℕ) → after ≡ room → is_ok r ≡ true → IsMade t u more q (unload_module (delete_task l id).lists m)
-            → HasStanding u more after (cleared_at id (standing s l))
+            → RepresentsStanding u more after (cleared_at id (standing s l))
         cleared-whole u more after q same e gone =
-            subst (HasStanding u more after) (sym (cleared-is ∙ on r e made.leaves.answered))
+            subst (RepresentsStanding u more after) (sym (cleared-is ∙ on r e made.leaves.answered))
             (made-after left t u more after q (unload_module (delete_task l id).lists m) (now room refl).words gone (omega (arith, same, (now room refl).keeper.enough)))
           where
             on : (r : Result (Unit {0}) ℕ) → is_ok r ≡ true → plain_answer r ≡ (delete_task l id).answer → deleted id m (standing s l) ≡ left_by left.words (unload_module (delete_task l id).lists m)

@@ -24,7 +24,7 @@ use Rattle.kernel_calls.specs.PacketCalls.SendOwn.{CanSendOwn, send_own}
 use Rattle.kernel_calls.proofs.TaskCalls.PlainRows.{plain-set}
 use Rattle.kernel_model.specs.KernelRecord.Standing.{standing}
 use Rattle.shell.specs.ShellPrograms.ShellPacket.{CanPost, post_events, posted, request_words}
-use Rattle.shell.specs.ShellPrograms.Standings.{HasStanding}
+use Rattle.shell.specs.ShellPrograms.Standings.{RepresentsStanding}
 use Rattle.shell.proofs.ShellPrograms.MadeStandings.{made-standing}
 use Rattle.shell.proofs.ShellPrograms.PacketPlace.{packet-arguments, packet-five, packet-residents}
 
@@ -61,7 +61,7 @@ module _ (s : List ℕ) (l : Lists) (to : ℕ) (z : ℤ) (tells : List ℕ → T
         plain = r.packet.words;
       })
 
-  pub posted-standing : (t : List ℕ) (told : List ℕ → Type 0) (after : ℕ) → after ≡ room → IsMade s t told (Ok minus_one) (send_own s l 279 1 (word_of z)) → HasStanding t told after (posted to (standing s l))
+  pub posted-standing : (t : List ℕ) (told : List ℕ → Type 0) (after : ℕ) → after ≡ room → IsMade s t told (Ok minus_one) (send_own s l 279 1 (word_of z)) → RepresentsStanding t told after (posted to (standing s l))
   posted-standing t told after same made =
       made-standing s t told after (Ok minus_one) (send_own s l 279 1 to) (subst (λ n. IsMade s t told (Ok minus_one) (send_own s l 279 1 n)) word-is made) (omega (arith, same, k.enough))
 

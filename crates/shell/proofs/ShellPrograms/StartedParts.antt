@@ -13,7 +13,7 @@ use Rattle.kernel_calls.specs.ModuleCalls.UnloadModule.{unload_module}
 use Rattle.kernel_calls.specs.TaskCalls.CreateTask.{create_task}
 use Rattle.kernel_model.specs.KernelRecord.Standing.{Standing, standing}
 use Rattle.kernel_boot.proofs.StandingKernels.{left-is, text-made}
-use Rattle.shell.specs.ShellPrograms.Standings.{HasStanding, left_by}
+use Rattle.shell.specs.ShellPrograms.Standings.{RepresentsStanding, left_by}
 use Rattle.shell.specs.ShellPrograms.StartedProgram.{IsStarted, after_creation, after_loading, create_program, creation, load_found, load_program, priority_of, start_program}
 use Rattle.shell.specs.declared.shell_programs.programs.Priority.{Priority}
 use Rattle.shell.proofs.ShellPrograms.MadeStandings.{made-after, made-standing}
@@ -38,7 +38,7 @@ module _ (pri : Priority) (m : ℕ) (s t : List ℕ) (l : Lists) (tells : List �
   so : IsMade s t tells r (creation pri m (standing s l))
   so = subst (λ z. IsMade s t tells r (create_task s l 0 (m ∷ []) 1000 z 1)) is made
 
-  now : HasStanding t tells room left
+  now : RepresentsStanding t tells room left
   now = made-standing s t tells room r (creation pri m (standing s l)) so enough
 
   pub created-keeper : HasKeeper t tells room (creation pri m (standing s l)).lists
@@ -55,7 +55,7 @@ module _ (pri : Priority) (m : ℕ) (s t : List ℕ) (l : Lists) (tells : List �
       → IsStarted u more after r (create_program pri m (standing s l))
   program-refused u more after q same e gone = on r e so.leaves.answered
     where
-      undone : HasStanding u more after (left_by left.words (unload_module (creation pri m (standing s l)).lists m))
+      undone : RepresentsStanding u more after (left_by left.words (unload_module (creation pri m (standing s l)).lists m))
       undone = made-after left t u more after q (unload_module (creation pri m (standing s l)).lists m) now.words gone (omega (arith, same, now.keeper.enough))
 
       on : (r : Result ℕ ℕ) → is_err r ≡ true → r ≡ (creation pri m (standing s l)).answer → IsStarted u more after r (create_program pri m (standing s l))

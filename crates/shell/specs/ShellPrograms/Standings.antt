@@ -9,7 +9,7 @@ abbrev pub left_by : List ℕ → Made → Standing
 left_by words made = left_with words made.lists made.plain
 
 -- the store has these words and holds these lists, and the keeper knows the words of the lists
-pub record HasStanding (s : List ℕ) (tells : List ℕ → Type 0) (room : ℕ) (k : Standing) : Type 0 where
+pub record RepresentsStanding (s : List ℕ) (tells : List ℕ → Type 0) (room : ℕ) (k : Standing) : Type 0 where
   -- these are all words of the store
   pub words : s ≡ k.words
   -- it holds the lists, and the keeper knows their words

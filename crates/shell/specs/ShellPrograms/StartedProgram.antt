@@ -13,7 +13,7 @@ use Rattle.kernel_boot.specs.BootTasks.{load_text}
 use Rattle.kernel_model.specs.declared.kernel_record.numbers.TheConstants.{SHELL}
 use Rattle.ram_disc.specs.declared.codes.TheConstants.{NO_FILE}
 use Rattle.shell.specs.ShellPrograms.ClearedTasks.{unloaded}
-use Rattle.shell.specs.ShellPrograms.Standings.{HasStanding, left_by}
+use Rattle.shell.specs.ShellPrograms.Standings.{RepresentsStanding, left_by}
 use Rattle.shell.specs.declared.shell_programs.programs.Priority.{Priority}
 use Rattle.shell.specs.declared.shell_programs.programs.Priority.TheVariants.{AboveShell, BelowShell, Given}
 
@@ -92,4 +92,4 @@ pub record IsStarted (s : List ℕ) (tells : List ℕ → Type 0) (room : ℕ) (
   -- this is the answer
   pub answered : answer ≡ x.answer
   -- the store stands as it is left
-  pub stands : HasStanding s tells room x.left
+  pub stands : RepresentsStanding s tells room x.left

@@ -34,7 +34,8 @@ pub struct BlockCounts {
 pub fn write_blocks(store: &Store, bytes: &mut Output)
     requires lists { (l : Lists) × HoldsLists store.now l }
     requires room { length bytes.old + most_in_block_line ≤ 8192 }
-    ensures text { (l : Lists) → HoldsLists store.now l → bytes.new ≡ bytes.old ++ block_line l.blocks }
+    ensures text { (l : Lists) → HoldsLists store.now l
+        → bytes.new ≡ bytes.old ++ block_line l.blocks }
     ensures short { length bytes.new ≤ length bytes.old + most_in_block_line }
 {
     write_counts(count_blocks(store), bytes);

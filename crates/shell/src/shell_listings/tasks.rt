@@ -18,7 +18,8 @@ use word_store::Store;
 pub fn write_tasks(store: &Store, bytes: &mut Output)
     requires lists { (l : Lists) × HoldsLists store.now l }
     requires room { length bytes.old + most_in_tasks ≤ 8192 }
-    ensures text { (l : Lists) → HoldsLists store.now l → bytes.new ≡ bytes.old ++ task_lines l.tasks }
+    ensures text { (l : Lists) → HoldsLists store.now l
+        → bytes.new ≡ bytes.old ++ task_lines l.tasks }
     ensures short { length bytes.new ≤ length bytes.old + most_in_tasks }
 {
     write_chain(store, bytes);
@@ -66,7 +67,8 @@ fn append_line(bytes: &mut Output, id: u32, priority: u32, state: u32)
 // Adds the word for the state of a task, and its marks.
 fn append_state(bytes: &mut Output, state: u32)
     requires { length bytes.old + 13 ≤ 8192 }
-    ensures text { bytes.new ≡ bytes.old ++ state_text (field_of state) (has_packets state) (is_held state) }
+    ensures text { bytes.new ≡ bytes.old
+        ++ state_text (field_of state) (has_packets state) (is_held state) }
     ensures short { length bytes.new ≤ length bytes.old + 13 }
 {
     bytes.append(field_name(state - state % 4));

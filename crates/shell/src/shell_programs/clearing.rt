@@ -3,7 +3,7 @@ ghost use Rattle.std.specs.Prelude.{◌≡◌, ◌≤◌};
 ghost use Rattle.kernel_model.specs.KernelRecord.Lists.{Lists};
 ghost use Rattle.kernel_model.specs.KernelRecord.Standing.{standing};
 ghost use Rattle.shell.specs.ShellPrograms.ClearedTasks.{cleared, cleared_at};
-ghost use Rattle.shell.specs.ShellPrograms.Standings.{HasStanding};
+ghost use Rattle.shell.specs.ShellPrograms.Standings.{RepresentsStanding};
 ghost use Rattle.kernel_model.specs.KernelRecord.Running.{RunsAlive};
 ghost use Rattle.kernel_model.specs.KernelRecord.ChangedStore.{HasKeeper};
 
@@ -20,7 +20,7 @@ pub fn clear_up<Q: KindKeeper>(store: &mut Store, kinds: &mut Q)
         × HasKeeper store.old (Q.tells kinds.old) (Q.room kinds.old) l × RunsAlive l }
     ensures cleared { (l : Lists)
         → HasKeeper store.old (Q.tells kinds.old) (Q.room kinds.old) l → RunsAlive l
-        → HasStanding store.new (Q.tells kinds.new) (Q.room kinds.new)
+        → RepresentsStanding store.new (Q.tells kinds.new) (Q.room kinds.new)
         (cleared (standing store.old l)) }
     ensures room { Q.room kinds.new ≡ Q.room kinds.old }
 {
@@ -36,7 +36,7 @@ fn clear_task<Q: KindKeeper>(store: &mut Store, kinds: &mut Q, id: u32)
         × HasKeeper store.old (Q.tells kinds.old) (Q.room kinds.old) l × RunsAlive l }
     ensures cleared { (l : Lists)
         → HasKeeper store.old (Q.tells kinds.old) (Q.room kinds.old) l → RunsAlive l
-        → HasStanding store.new (Q.tells kinds.new) (Q.room kinds.new)
+        → RepresentsStanding store.new (Q.tells kinds.new) (Q.room kinds.new)
         (cleared_at id (standing store.old l)) }
     ensures room { Q.room kinds.new ≡ Q.room kinds.old }
 {

@@ -4,7 +4,7 @@ ghost use Rattle.kernel_model.specs.KernelRecord.Lists.{Lists};
 ghost use Rattle.kernel_lists.specs.OwnedWords.Owned.{written};
 ghost use Rattle.kernel_model.specs.KernelRecord.Standing.{standing};
 ghost use Rattle.shell.specs.ShellPrograms.ShellPacket.{CanPost, post_events, posted, request_words, requested};
-ghost use Rattle.shell.specs.ShellPrograms.Standings.{HasStanding};
+ghost use Rattle.shell.specs.ShellPrograms.Standings.{RepresentsStanding};
 ghost use Rattle.kernel_model.specs.KernelRecord.LoggedEvents.{LogsAll};
 ghost use Rattle.kernel_model.specs.KernelRecord.ChangedStore.{HasKeeper};
 
@@ -26,7 +26,7 @@ pub fn send_shell_packet<Q: KindKeeper, L: EventLog>(
     requires { (l : Lists) × HasKeeper store.old (Q.tells kinds.old) (Q.room kinds.old) l
         × CanPost l to }
     ensures sent { (l : Lists) → HasKeeper store.old (Q.tells kinds.old) (Q.room kinds.old) l
-        → CanPost l to → HasStanding store.new (Q.tells kinds.new) (Q.room kinds.new)
+        → CanPost l to → RepresentsStanding store.new (Q.tells kinds.new) (Q.room kinds.new)
         (requested to kind (standing store.old l)) }
     ensures notes { (l : Lists) → HasKeeper store.old (Q.tells kinds.old) (Q.room kinds.old) l
         → CanPost l to → LogsAll L.EventLog log.old log.new (post_events to) }
@@ -59,7 +59,7 @@ pub fn post_shell_packet<Q: KindKeeper, L: EventLog>(
     requires { (l : Lists) × HasKeeper store.old (Q.tells kinds.old) (Q.room kinds.old) l
         × CanPost l to }
     ensures sent { (l : Lists) → HasKeeper store.old (Q.tells kinds.old) (Q.room kinds.old) l
-        → CanPost l to → HasStanding store.new (Q.tells kinds.new) (Q.room kinds.new)
+        → CanPost l to → RepresentsStanding store.new (Q.tells kinds.new) (Q.room kinds.new)
         (posted to (standing store.old l)) }
     ensures notes { (l : Lists) → HasKeeper store.old (Q.tells kinds.old) (Q.room kinds.old) l
         → CanPost l to → LogsAll L.EventLog log.old log.new (post_events to) }

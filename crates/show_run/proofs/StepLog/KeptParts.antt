@@ -8,16 +8,16 @@ use Rattle.kernel_model.specs.KernelRecord.Lists.{Lists}
 use Rattle.kernel_model.specs.KernelRecord.Recovered.{task_in}
 use Rattle.kernel_model.specs.KernelRecord.Task.{Task}
 use Rattle.kernel_lists.specs.TaskBlock.TaskChain.{id_in, task_with, tasks_in}
-use Rattle.kernel_machine.specs.RunningMachine.Stands.{Stands}
+use Rattle.kernel_machine.specs.RunningMachine.RepresentedKernels.{RepresentsKernel}
 use Rattle.kernel_machine.specs.declared.running_machine.parts.Parts.{Parts}
-use Rattle.tripos_machine.specs.State.{StandsFull, State}
+use Rattle.tripos_machine.specs.State.{RepresentsFullState, State}
 use Rattle.tripos_machine.specs.State.State.{Bare, Full}
 use Rattle.debugger.proofs.KernelLists.{tasks-back}
 use Rattle.show_run.specs.StepLog.Answers.{answer_at, answer_of_task, answer_saved}
 use Rattle.show_run.specs.StepLog.Faults.{record_at, record_of_task, recorded}
 
 -- what holds of each kernel for which the parts stand, holds of the machine
-pub on-stands : (p : Parts) (s : State) (P : State → Type 0) → StandsFull p s → ((k : Kernel) → Stands p k → P (Full k)) → P s
+pub on-stands : (p : Parts) (s : State) (P : State → Type 0) → RepresentsFullState p s → ((k : Kernel) → RepresentsKernel p k → P (Full k)) → P s
 on-stands p (Bare m) P x each = absurd x
 on-stands p (Full k) P x each = each k x
 

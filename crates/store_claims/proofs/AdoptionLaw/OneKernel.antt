@@ -15,7 +15,7 @@ use Rattle.kernel_model.specs.KernelRecord.Recovered.{lists_in}
 use Rattle.kernel_model.specs.KernelRecord.ValidKernel.{IsValid}
 use Rattle.kernel_model.proofs.KernelRecord.RecoveredLists.{lists-back}
 use Rattle.store_claims.specs.AdoptionLaw.OtherParts.{OtherParts}
-use Rattle.store_claims.specs.AdoptionLaw.Adoption.{HasKernel, IsAdopted, OthersStand, StandsFor, kernel_in}
+use Rattle.store_claims.specs.AdoptionLaw.Adoption.{HasKernel, IsAdopted, OthersStand, StoreRepresentsKernel, kernel_in}
 use Rattle.kernel_model.proofs.KernelRecord.SettledWords.{word_in-some}
 
 -- ---- the plain words of a store beside some lists
@@ -96,7 +96,7 @@ module _ (s : List ℕ) (o : OtherParts) where
 
 -- ---- and no other does
 
-module _ (s : List ℕ) (o : OtherParts) (k : Kernel) (v : IsValid k) (st : StandsFor s o k) where
+module _ (s : List ℕ) (o : OtherParts) (k : Kernel) (v : IsValid k) (st : StoreRepresentsKernel s o k) where
   lists-one : k.lists ≡ lists_in s
   lists-one = sym (lists-back s k.lists v.lists st.image.size st.image.holds)
 

@@ -1,4 +1,4 @@
--- The valid kernel that stands for a store and the other parts of a machine.
+-- The valid kernel that a store and the other parts of a machine represent.
 use Rattle.std.specs.Prelude.{◌≡◌, ◌/◌, ℕ, None, List}
 use Rattle.kernel_model.specs.KernelRecord.Between.{FirstRuns, RegistersStand, ResidentsStand}
 use Rattle.kernel_model.specs.KernelRecord.HoldsLists.{HoldsLists}
@@ -8,8 +8,8 @@ use Rattle.kernel_model.specs.KernelRecord.Recovered.{lists_in}
 use Rattle.kernel_model.specs.KernelRecord.ValidKernel.{HasSteps, IsValid}
 use Rattle.store_claims.specs.AdoptionLaw.OtherParts.{OtherParts}
 
--- The kernel, which has not stopped, stands for the store and the other parts.
-pub record StandsFor (s : List ℕ) (o : OtherParts) (k : Kernel) : Type 0 where
+-- The store and the other parts represent the kernel, which has not stopped.
+pub record StoreRepresentsKernel (s : List ℕ) (o : OtherParts) (k : Kernel) : Type 0 where
   -- the store is its image
   pub image : IsImage s k
   -- the version of the store's layout
@@ -32,12 +32,12 @@ pub record StandsFor (s : List ℕ) (o : OtherParts) (k : Kernel) : Type 0 where
   pub keys : k.keys ≡ o.keys
   -- the pipes
   pub pipes : k.pipes ≡ o.pipes
-  -- it has not stopped; without this a stopped kernel, whose first ready task need not run, would stand for them as well
+  -- it has not stopped; without this a stopped kernel, whose first ready task need not run, would be represented as well
   pub goes : k.stop ≡ None
 
 -- some valid kernel does
 abbrev pub HasKernel : List ℕ → OtherParts → Type 0
-HasKernel s o = (k : Kernel) × IsValid k × StandsFor s o k
+HasKernel s o = (k : Kernel) × IsValid k × StoreRepresentsKernel s o k
 
 -- ---- the one that can
 

@@ -39,7 +39,7 @@ use Rattle.kernel_machine.proofs.MachineBoot.BootedKernels.{booted-full, booted-
 use Rattle.tripos_machine.proofs.PacketHistory.TaskCalls.{create_task-valid}
 use Rattle.tripos_machine.proofs.PacketHistory.LeftStores.{call-holds}
 use Rattle.tripos_machine.proofs.PacketHistory.StartedPrograms.{begun-holds, found-holds}
-use Rattle.tripos_machine.proofs.PacketHistory.PlainWords.{Stands, dispatch-left, image-holds, plain-like}
+use Rattle.tripos_machine.proofs.PacketHistory.PlainWords.{HasValidImage, dispatch-left, image-holds, plain-like}
 use Rattle.tripos_machine.proofs.PacketHistory.ValidSteps.{part-valid}
 
 -- ---- the lists before the lines
@@ -132,40 +132,40 @@ tasks-hold version d (line ∷ lines) k j may same is h = on (λ i v e x. tasks-
 
 -- ---- the kernel
 
-stored-stands : (words : List ℕ) (l : Lists) (k j : Kernel) → AreValid l → j.lists ≡ l → j.plain ≡ (with_store words l k).plain → Stands j
+stored-stands : (words : List ℕ) (l : Lists) (k j : Kernel) → AreValid l → j.lists ≡ l → j.plain ≡ (with_store words l k).plain → HasValidImage j
 stored-stands words l k j v lists plain =
     record { lists = subst AreValid (sym lists) v; plain = plain-like (with_store words l k) j (plain-stored words l k v.owns) lists plain }
 
-first-stands : (s : Session) → HasKernel s → Stands (first_kernel s)
+first-stands : (s : Session) → HasKernel s → HasValidImage (first_kernel s)
 unfolding first_kernel
 first-stands s h = stored-stands (replicate s.store 0) (first_lists s) (first_kernel s) (first_kernel s) (first-valid s h) refl refl
 
-files-stand : (lines : List SessionLine) (k j : Kernel) → with_files lines k ≡ Ok j → Stands k → (j.lists ≡ k.lists) × Stands j
+files-stand : (lines : List SessionLine) (k j : Kernel) → with_files lines k ≡ Ok j → HasValidImage k → (j.lists ≡ k.lists) × HasValidImage j
 unfolding with_files
 files-stand lines k j is h = on (load_files k.disc lines) is
   where
-    on : (r : Result Disc BootRefusal) → (r >>= (λ d. Ok (with_disc d k))) ≡ Ok j → (j.lists ≡ k.lists) × Stands j
+    on : (r : Result Disc BootRefusal) → (r >>= (λ d. Ok (with_disc d k))) ≡ Ok j → (j.lists ≡ k.lists) × HasValidImage j
     on (Ok d) f =
         let same : with_disc d k ≡ j = cc in
-        subst (λ (z : Kernel). (z.lists ≡ k.lists) × Stands z) same (refl, record { lists = h.lists; plain = plain-like k (with_disc d k) h.plain refl refl })
+        subst (λ (z : Kernel). (z.lists ≡ k.lists) × HasValidImage z) same (refl, record { lists = h.lists; plain = plain-like k (with_disc d k) h.plain refl refl })
     on (Err refusal) f = cc
 
-started-stand : (lines : List SessionLine) (k j : Kernel) → AreBootLines k.lists.version lines → with_tasks lines k ≡ Ok j → Stands k → Stands j
+started-stand : (lines : List SessionLine) (k j : Kernel) → AreBootLines k.lists.version lines → with_tasks lines k ≡ Ok j → HasValidImage k → HasValidImage j
 unfolding with_tasks
 started-stand lines k j may is h = on (start_tasks k.disc lines (standing (image k) k.lists)) refl is
   where
-    on : (r : Result Standing BootRefusal) → start_tasks k.disc lines (standing (image k) k.lists) ≡ r → (r >>= (λ x. Ok (with_standing x k))) ≡ Ok j → Stands j
+    on : (r : Result Standing BootRefusal) → start_tasks k.disc lines (standing (image k) k.lists) ≡ r → (r >>= (λ x. Ok (with_standing x k))) ≡ Ok j → HasValidImage j
     on (Ok x) e f =
         let same : with_standing x k ≡ j = cc in
-        subst Stands same
+        subst HasValidImage same
         (stored-stands x.words x.lists k (with_standing x k) (tasks-hold k.lists.version k.disc lines (standing (image k) k.lists) x may refl e (image-holds k h)).valid refl refl)
     on (Err refusal) e f = cc
 
-lines-stand : (version : ℕ) (lines : List SessionLine) (k j : Kernel) → AreBootLines version lines → k.lists.version ≡ version → with_lines lines k ≡ Ok j → Stands k → Stands j
+lines-stand : (version : ℕ) (lines : List SessionLine) (k j : Kernel) → AreBootLines version lines → k.lists.version ≡ version → with_lines lines k ≡ Ok j → HasValidImage k → HasValidImage j
 unfolding with_lines
 lines-stand version lines k j may same is h = on (with_files lines k) refl is
   where
-    on : (r : Result Kernel BootRefusal) → with_files lines k ≡ r → (r >>= with_tasks lines) ≡ Ok j → Stands j
+    on : (r : Result Kernel BootRefusal) → with_files lines k ≡ r → (r >>= with_tasks lines) ≡ Ok j → HasValidImage j
     on (Ok i) e f =
         let r = files-stand lines k i e h in
         started-stand lines i j (subst (λ v. AreBootLines v lines) (sym (ap (λ (l : Lists). l.version) r.0 ∙ same)) may) f r.1
@@ -180,7 +180,7 @@ pub record IsBooted (k : Kernel) : Type 0 where
   pub steps : k.steps ≡ 0
   pub pipes : k.pipes ≡ no_pipes
 
-module _ (s : Session) (h : HasKernel s) (k : Kernel) (b : HasBegun s k) (stands : Stands k) where
+module _ (s : Session) (h : HasKernel s) (k : Kernel) (b : HasBegun s k) (stands : HasValidImage k) where
   dispatched-is : IsBooted (dispatch k).kernel
   dispatched-is =
       let v : AreValid (dispatch k).kernel.lists = part-valid k stands.lists (begun-dispatches s h k b) in

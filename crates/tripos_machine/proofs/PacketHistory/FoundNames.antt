@@ -8,8 +8,8 @@ use Rattle.ram_disc.specs.Slots.{HasPlace, IsAt, name_in}
 use Rattle.ram_disc.proofs.NameOrder.{all-get_or, is_before-cmp, is_before-greater, is_before-trans, same-cmp}
 
 module _ (names : List (List ℕ)) (name : List ℕ) where
-  abbrev Stands : List ℕ → Type 0
-  Stands used = ((i : ℕ) × IsAt names used name i) ⊎ ((i : ℕ) × HasPlace names used name i)
+  abbrev IsAtSomePlace : List ℕ → Type 0
+  IsAtSomePlace used = ((i : ℕ) × IsAt names used name i) ⊎ ((i : ℕ) × HasPlace names used name i)
 
   -- before this slot
   at-front : (u : ℕ) (us : List ℕ) → AreInOrder (map (name_in names) (u ∷ us)) → is_before name (name_in names u) ≡ true → HasPlace names (u ∷ us) name 0
@@ -38,7 +38,7 @@ module _ (names : List (List ℕ)) (name : List ℕ) where
           (all-get_or (λ n. is_before (name_in names u) n ≡ true) (map (name_in names) us) k [] order.0 (omega (arith, lt', lengths us))))
 
   -- behind it
-  further : (u : ℕ) (us : List ℕ) → is_before (name_in names u) name ≡ true → Stands us → Stands (u ∷ us)
+  further : (u : ℕ) (us : List ℕ) → is_before (name_in names u) name ≡ true → IsAtSomePlace us → IsAtSomePlace (u ∷ us)
   further u us high (inl at) = inl (suc at.0, record { within = omega (arith, at.1.within); is = at.1.is })
   further u us high (inr place) =
       inr (
@@ -58,11 +58,11 @@ module _ (names : List (List ℕ)) (name : List ℕ) where
       after zero h lt = absurd (omega arith)
       after (suc k) h lt = place.1.after k (omega arith) (omega arith)
 
-  pub name-stands : (used : List ℕ) → AreInOrder (map (name_in names) used) → Stands used
+  pub name-stands : (used : List ℕ) → AreInOrder (map (name_in names) used) → IsAtSomePlace used
   name-stands [] order = inr (0, record { within = omega arith; before = λ k h. absurd (omega (arith, h)); after = λ k h lt. absurd (omega (arith, lt)) })
   name-stands (u ∷ us) order = on (slice_cmp nat_cmp (name_in names u) name) refl (name-stands us order.1)
     where
-      on : (o : Ordering) → slice_cmp nat_cmp (name_in names u) name ≡ o → Stands us → Stands (u ∷ us)
+      on : (o : Ordering) → slice_cmp nat_cmp (name_in names u) name ≡ o → IsAtSomePlace us → IsAtSomePlace (u ∷ us)
       on Less e more = further u us (is_before-cmp (name_in names u) name e) more
       on Equal e more = inl (0, record { within = omega arith; is = same-cmp (name_in names u) name e })
       on Greater e more = inr (0, at-front u us order (is_before-greater (name_in names u) name e))

@@ -13,7 +13,7 @@ use Rattle.kernel_model.specs.KernelRecord.ValidQueues.{Place}
 use Rattle.kernel_model.proofs.KernelRecord.QueuePlaces.{place-there}
 use Rattle.kernel_calls.proofs.PacketCalls.HeldPlaces.{held-at}
 use Rattle.tripos_machine.specs.PacketHistory.Senders.{HoldSenders}
-use Rattle.tripos_machine.proofs.PacketHistory.PlainWords.{Stands, image-holds}
+use Rattle.tripos_machine.proofs.PacketHistory.PlainWords.{HasValidImage, image-holds}
 
 -- the packets have their senders as their words 1
 abbrev pub AreSenders : List ℕ → List QueuedPacket → Type 0
@@ -35,7 +35,7 @@ module _ (s : List ℕ) (l : Lists) (h : HoldsLists s l) where
       on [] is = tt
       on (p ∷ ps) is = subst (AreSenders s) is (held-senders at (place-there l at [] p ps h.valid is))
 
-pub stands-senders : (k : Kernel) → Stands k → HoldSenders k
+pub stands-senders : (k : Kernel) → HasValidImage k → HoldSenders k
 stands-senders k stands at has = place-senders _ k.lists (image-holds k stands) at
 
 pub valid-senders : (k : Kernel) → IsValid k → HoldSenders k

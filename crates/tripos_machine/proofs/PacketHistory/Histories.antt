@@ -20,7 +20,7 @@ use Rattle.tripos_machine.specs.PacketHistory.HistoryLaw.{HistoryLaw, StepLaw}
 use Rattle.tripos_machine.specs.PacketHistory.Steps.{EachStep, StepMoves, due_in}
 use Rattle.tripos_machine.proofs.PacketHistory.HeldSenders.{stands-senders, valid-senders}
 use Rattle.tripos_machine.proofs.PacketHistory.PartEvents.{dispatch-accepts, dispatch-takes, key-returns, key-takes, output-returns, output-takes, step-parts, tick-returns, tick-takes}
-use Rattle.tripos_machine.proofs.PacketHistory.PlainWords.{Stands, image-holds, key-left, output-left, plain-like, tick-left, turn-left}
+use Rattle.tripos_machine.proofs.PacketHistory.PlainWords.{HasValidImage, image-holds, key-left, output-left, plain-like, tick-left, turn-left}
 use Rattle.tripos_machine.proofs.PacketHistory.Runs.{history-events, run-history}
 use Rattle.tripos_machine.proofs.PacketHistory.StepMoved.{key-moved, output-moved, step-moved, tick-moved}
 use Rattle.tripos_machine.proofs.PacketHistory.TakenMoves.{MovesInTurn}
@@ -53,19 +53,19 @@ module _ (k : Kernel) (valid : IsValid k) (goes : k.stop ≡ None) where
   abbrev output_part : Stepped
   output_part = output keyboard_part.kernel
 
-  part-holds : (j : Kernel) (x : Stepped) → Stands j → (HoldsLists (image j) j.lists → AllByRecursion (HasSender (image j)) x.events) → PartHolds j x
+  part-holds : (j : Kernel) (x : Stepped) → HasValidImage j → (HoldsLists (image j) j.lists → AllByRecursion (HasSender (image j)) x.events) → PartHolds j x
   part-holds j x stands taken = record { queued = stands-senders j stands; taken = taken (image-holds j stands) }
 
-  turned-stands : Stands turn_part.kernel
+  turned-stands : HasValidImage turn_part.kernel
   turned-stands = (let v = step-turn-valid k valid goes in record { lists = v; plain = turn-left (with_step k) (plain-like k (with_step k) valid.plain refl refl) v })
 
-  ticked-stands : Stands clock_part.kernel
+  ticked-stands : HasValidImage clock_part.kernel
   ticked-stands = (let v = (tick-moved (λ e. 0) turn_part.kernel turned-stands.lists).valid in record { lists = v; plain = tick-left turn_part.kernel turned-stands.plain v })
 
-  typed-stands : Stands keyboard_part.kernel
+  typed-stands : HasValidImage keyboard_part.kernel
   typed-stands = (let v = (key-moved (λ e. 0) clock_part.kernel ticked-stands.lists).valid in record { lists = v; plain = key-left clock_part.kernel v })
 
-  printed-stands : Stands output_part.kernel
+  printed-stands : HasValidImage output_part.kernel
   printed-stands = (let v = (output-moved (λ e. 0) keyboard_part.kernel typed-stands.lists).valid in record { lists = v; plain = output-left keyboard_part.kernel v })
 
   step-holds : StepHolds k

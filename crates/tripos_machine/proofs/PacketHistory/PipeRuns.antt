@@ -12,7 +12,7 @@ use Rattle.kernel_model.specs.KernelRecord.ValidKernel.{IsValid}
 use Rattle.kernel_model.specs.declared.kernel_record.stops.Stop.{Stop}
 use Rattle.resident_tasks.specs.ResidentRequests.Requests.{first_request, taken, words_taken, work}
 use Rattle.resident_tasks.specs.declared.resident_requests.requests.Request.{Request}
-use Rattle.resident_tasks.specs.PipeHandler.Histories.{History, IsLawful, PipeRequest, StandsFor, after, history_after, no_history, pipes_after}
+use Rattle.resident_tasks.specs.PipeHandler.Histories.{History, IsHistoryOf, IsLawful, PipeRequest, after, history_after, no_history, pipes_after}
 use Rattle.resident_tasks.specs.PipeHandler.PacketRequests.{asked, requests_by, requests_in_turn, requests_of}
 use Rattle.resident_tasks.proofs.PipeHandler.Histories.{pipe-bytes, pipe-room}
 use Rattle.resident_tasks.proofs.PipeHandler.RequestsInTurns.{asked-lawful, turn-asked}
@@ -138,20 +138,20 @@ run-requests (suc n) k =
     run-requests n (step k).kernel ∙ ap (λ ps. pipes_after ps (requests_of_run n (step k).kernel)) (step-requests k)
     ∙ sym (after-both k.pipes (requests_of_step k) (requests_of_run n (step k).kernel))
 
-pub run-bytes : (n i : ℕ) (k : Kernel) (h : History) → StandsFor h (pipe_at k.pipes i) → StandsFor (history_after i k.pipes h (requests_of_run n k)) (pipe_at (run n k).kernel.pipes i)
+pub run-bytes : (n i : ℕ) (k : Kernel) (h : History) → IsHistoryOf h (pipe_at k.pipes i) → IsHistoryOf (history_after i k.pipes h (requests_of_run n k)) (pipe_at (run n k).kernel.pipes i)
 run-bytes n i k h stands =
-    subst (λ ps. StandsFor (history_after i k.pipes h (requests_of_run n k)) (pipe_at ps i)) (sym (run-requests n k)) (pipe-bytes k.pipes i h (requests_of_run n k) stands)
+    subst (λ ps. IsHistoryOf (history_after i k.pipes h (requests_of_run n k)) (pipe_at ps i)) (sym (run-requests n k)) (pipe-bytes k.pipes i h (requests_of_run n k) stands)
 
 pub run-room : (n i : ℕ) (k : Kernel) (p : Pipe) → IsValid k → pipe_at (run n k).kernel.pipes i ≡ Some p → length p.held ≤ most_held
 run-room n i k p valid is = pipe-room k.pipes i (requests_of_run n k) p valid.residents.pipes.pipes (ap (λ ps. pipe_at ps i) (sym (run-requests n k)) ∙ is)
 
 -- ---- from a boot on
 
-no-pipe : (i : ℕ) → StandsFor no_history (pipe_at no_pipes i)
-no-pipe i = subst (StandsFor no_history) (sym (none-at {X = Pipe} most_pipes i)) tt
+no-pipe : (i : ℕ) → IsHistoryOf no_history (pipe_at no_pipes i)
+no-pipe i = subst (IsHistoryOf no_history) (sym (none-at {X = Pipe} most_pipes i)) tt
 
 pub booted-bytes : (n i : ℕ) (s : Session) (x : Stepped) → HasKernel s → boot s ≡ Ok x
-    → StandsFor (history_after i x.kernel.pipes no_history (requests_of_run n x.kernel)) (pipe_at (run n x.kernel).kernel.pipes i)
+    → IsHistoryOf (history_after i x.kernel.pipes no_history (requests_of_run n x.kernel)) (pipe_at (run n x.kernel).kernel.pipes i)
 booted-bytes n i s x h is =
     let b : IsBooted x.kernel = booted-is s h x is in
-    run-bytes n i x.kernel no_history (subst (λ ps. StandsFor no_history (pipe_at ps i)) (sym b.pipes) (no-pipe i))
+    run-bytes n i x.kernel no_history (subst (λ ps. IsHistoryOf no_history (pipe_at ps i)) (sym b.pipes) (no-pipe i))

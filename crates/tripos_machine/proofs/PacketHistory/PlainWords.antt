@@ -30,12 +30,12 @@ plain-like i j h lists plain =
     }
 
 -- its lists are valid, and its plain words are those that nobody owns
-pub record Stands (k : Kernel) : Type 0 where
+pub record HasValidImage (k : Kernel) : Type 0 where
   pub lists : AreValid k.lists
   pub plain : HasPlainWords k
 
 -- so its image holds them
-pub image-holds : (k : Kernel) → Stands k → HoldsLists (image k) k.lists
+pub image-holds : (k : Kernel) → HasValidImage k → HoldsLists (image k) k.lists
 image-holds k h = (let i : IsImage (image k) k = image-of k h.lists.owns.apart h.lists.owns.inside h.plain in record { valid = h.lists; size = i.size; holds = i.holds })
 
 -- what a part leaves has plain words, if its lists are valid

@@ -4,7 +4,7 @@ ghost use Rattle.std.specs.List.{AllByRecursion};
 ghost use Rattle.kernel_model.specs.KernelRecord.Kernel.{Kernel, Pipe};
 ghost use Rattle.kernel_model.specs.KernelRecord.Pipes.{most_held, pipe_at};
 ghost use Rattle.kernel_model.specs.KernelRecord.ValidKernel.{IsValid};
-ghost use Rattle.resident_tasks.specs.PipeHandler.Histories.{History, IsLawful, StandsFor, history_after, no_history, pipes_after};
+ghost use Rattle.resident_tasks.specs.PipeHandler.Histories.{History, IsHistoryOf, IsLawful, history_after, no_history, pipes_after};
 ghost use Rattle.kernel_machine.specs.KernelSteps.Step.{run, step};
 ghost use Rattle.kernel_machine.specs.KernelSteps.Stepped.{Stepped};
 ghost use Rattle.kernel_machine.specs.MachineBoot.Boot.{HasKernel, boot};
@@ -26,8 +26,8 @@ pub fn run_law()
     ensures run { (n : ℕ) (k : Kernel)
         → (run n k).kernel.pipes ≡ pipes_after k.pipes (requests_of_run n k) }
     ensures lawful { (n : ℕ) (k : Kernel) → AllByRecursion IsLawful (requests_of_run n k) }
-    ensures bytes { (n i : ℕ) (k : Kernel) (h : History) → StandsFor h (pipe_at k.pipes i)
-        → StandsFor (history_after i k.pipes h (requests_of_run n k))
+    ensures bytes { (n i : ℕ) (k : Kernel) (h : History) → IsHistoryOf h (pipe_at k.pipes i)
+        → IsHistoryOf (history_after i k.pipes h (requests_of_run n k))
         (pipe_at (run n k).kernel.pipes i) }
     ensures room { (n i : ℕ) (k : Kernel) (p : Pipe) → IsValid k
         → pipe_at (run n k).kernel.pipes i ≡ Some p
@@ -38,6 +38,6 @@ pub fn run_law()
 /// is there is what was read from it, and then what it holds.
 pub fn boot_law()
     ensures { (n i : ℕ) (s : Session) (x : Stepped) → HasKernel s → boot s ≡ Ok x
-        → StandsFor (history_after i x.kernel.pipes no_history (requests_of_run n x.kernel))
+        → IsHistoryOf (history_after i x.kernel.pipes no_history (requests_of_run n x.kernel))
         (pipe_at (run n x.kernel).kernel.pipes i) }
 {}

@@ -1,4 +1,4 @@
--- The kernel for which the parts of a machine stand.
+-- The kernel that the parts of a machine represent.
 use Rattle.std.specs.Prelude.{◌≡◌, length}
 use Rattle.kernel_model.specs.KernelRecord.ChangedStore.{HasKeeper}
 use Rattle.kernel_model.specs.KernelRecord.Image.{HasPlainWords, IsImage}
@@ -7,9 +7,9 @@ use Rattle.kernel_model.specs.WordKinds.ByteMap.{MarksAll}
 use Rattle.kernel_machine.specs.RunningMachine.Script.{still_to_come}
 use Rattle.kernel_machine.specs.declared.running_machine.parts.Parts.{Parts}
 
--- The store is the kernel's image, each of its words has a mark, and these are those of the kernel's words; all else is the kernel's.
+-- The parts represent the kernel: the store is its image, the words that it owns are marked, and all else is the same.
 -- Whether the machine has stopped is no part of it.
-pub record Stands (p : Parts) (k : Kernel) : Type 0 where
+pub record RepresentsKernel (p : Parts) (k : Kernel) : Type 0 where
   -- the store holds the kernel's lists, and their words are marked
   pub keeper : HasKeeper p.store (MarksAll p.kinds) (length p.kinds) k.lists
   -- each word of the store has a mark
