@@ -10,7 +10,6 @@ mod new_tasks;
 mod packets_out;
 mod priority;
 mod release;
-mod states;
 
 pub use creation::{create_task, create_task_of};
 pub use deletion::delete_task;

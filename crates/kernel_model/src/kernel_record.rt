@@ -6,8 +6,10 @@ pub mod image_laws;
 pub mod list_laws;
 pub mod number_laws;
 pub mod numbers;
+pub mod states;
 pub mod stops;
 pub mod uses;
 
+pub use states::is_held_state;
 pub use stops::Stop;
 pub use uses::Use;

@@ -6,8 +6,8 @@ ghost use Rattle.kernel_calls.specs.TaskCalls.ReleaseTask.{release};
 
 use crate::call_answers::codes::NOT_HELD;
 use crate::call_answers::guest;
-use crate::task_calls::states::has_held_bit;
 use kernel_lists::{TcbField, field, set_field};
+use kernel_model::is_held_state;
 use kernel_model::numbers::HELD;
 use word_store::Store;
 
@@ -20,7 +20,7 @@ pub fn release_task(store: &mut Store, id: u32) -> Result<(), u32>
 {
     let task = guest(store, id)?;
     let state = field(store, task, TcbField::State);
-    if !has_held_bit(state) {
+    if !is_held_state(state) {
         return Err(NOT_HELD);
     }
     set_field(store, task, TcbField::State, state - HELD);

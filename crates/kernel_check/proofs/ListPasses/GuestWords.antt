@@ -244,13 +244,13 @@ module _ (s : List ℕ) (t : ℕ) (can : CanPass s t) (resident : is_guest_id (i
     coroutines = list-none k.first;
     active = out-none (length s) k.current;
     alive = λ e. k.alive (omega (arith, e));
-    free = ne_eqb (get_or s (t + 4) 0 / 2 % 2) 1 k.free;
+    free = k.free;
   }
 
   pub resident-idle : IsResident (task_in s t) → IsIdle s t
   resident-idle r = record {
     alive = λ e. r.alive (omega (arith, e));
-    free = λ e. false≢true (sym r.free ∙ eq-eqb (get_or s (t + 4) 0 / 2 % 2) 1 e);
+    free = r.free;
     code = filter-none (get_or s (t + 10) 0) (sym alone ∙ r.modules);
     stack = r.stack;
     fault = r.fault;

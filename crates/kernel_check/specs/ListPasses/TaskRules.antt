@@ -1,10 +1,10 @@
 -- The rules of tasks, in the parts in which they are decided.
-use Rattle.std.specs.Prelude.{◌≡◌, ◌≢◌, ℕ, ◌+◌, ◌/◌, ◌%◌, ◌<◌, ◌≤◌, ◌⊎◌, Bool, true, List, length, map, slice_index}
+use Rattle.std.specs.Prelude.{◌≡◌, ◌≢◌, ℕ, ◌+◌, ◌/◌, ◌<◌, ◌≤◌, ◌⊎◌, Bool, true, false, List, length, map, slice_index}
 use Rattle.std.specs.List.{AllByRecursion}
 use Rattle.kernel_lists.specs.LinkedList.Places.{has}
 use Rattle.kernel_lists.specs.HunkLoader.HeldModules.{module_address}
 use Rattle.kernel_model.specs.KernelRecord.Lists.{Lists, has_task}
-use Rattle.kernel_model.specs.KernelRecord.Task.{Task}
+use Rattle.kernel_model.specs.KernelRecord.Task.{Task, is_held_state}
 use Rattle.kernel_model.specs.KernelRecord.ValidTasks.{IsField}
 use Rattle.kernel_model.specs.KernelRecord.Versions.{highest_id_of, most_modules_of}
 use Rattle.store_claims.specs.WordClaims.Marks.{is_open}
@@ -60,7 +60,7 @@ pub record IsIdle (s : List ℕ) (t : ℕ) : Type 0 where
   -- it is not dead
   pub alive : slice_index s (t + 4) / 4 ≢ 3
   -- nor held
-  pub free : slice_index s (t + 4) / 2 % 2 ≢ 1
+  pub free : is_held_state (slice_index s (t + 4)) ≡ false
   -- it has no module
   pub code : slice_index s (t + 10) ≡ 0
   -- no stack

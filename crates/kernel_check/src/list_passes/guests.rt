@@ -14,6 +14,7 @@ use crate::list_passes::resident_pass::has_task;
 use crate::list_passes::starts::has_block;
 use crate::list_passes::table::highest_of;
 use kernel_lists::{TcbField, field, head_words};
+use kernel_model::is_held_state;
 use kernel_model::numbers::{
     CONSOLE, FAULT_ADDRESS, FAULT_WORD, FILE_HANDLER, GLOBAL_WORDS, REPORTER, RESIDENT_WORDS, SHELL,
 };
@@ -159,7 +160,7 @@ fn is_idle(store: &Store, t: u32) -> bool
     ensures { IsTrue result ↔ IsIdle store.now t }
 {
     let state = field(store, t, TcbField::State);
-    if state / 4 == 3 || state / 2 % 2 == 1 {
+    if state / 4 == 3 || is_held_state(state) {
         return false;
     }
     if field(store, t, TcbField::Module) != 0 || field(store, t, TcbField::StackTop) != 0 {

@@ -1,5 +1,5 @@
 -- The words that a dispatch writes, and the registers that it gives, as the store has them.
-use Rattle.std.specs.Prelude.{ℕ, ◌+◌, ◌-◌, ◌%◌, ◌==◌, ◌&&◌, ◌||◌, Bool, if◌then◌else◌, List, [], ◌∷◌, nat_le, nat_lt, slice_index, slice_set, Option, Some, None, false}
+use Rattle.std.specs.Prelude.{ℕ, ◌+◌, ◌-◌, ◌%◌, ◌==◌, ◌&&◌, ◌||◌, Bool, if◌then◌else◌, List, [], ◌∷◌, nat_le, nat_lt, slice_index, slice_set, Option, Some, None, false, not}
 use Rattle.word_store.specs.declared.registers.Regs.{Regs}
 use Rattle.kernel_lists.specs.OwnedWords.Owned.{Pairs, written}
 use Rattle.kernel_lists.specs.PacketQueue.Queue.{unlinked}
@@ -9,7 +9,7 @@ use Rattle.kernel_lists.specs.TaskBlock.RootWords.{root_address}
 use Rattle.kernel_lists.specs.TaskBlock.TaskWords.{word_index}
 use Rattle.kernel_lists.specs.declared.task_block.fields.TcbField.TheVariants.{Globals, Id, Queue, SavedA, SavedB, SavedC, SavedG, SavedP, SavedPc, Stack, State}
 use Rattle.kernel_lists.specs.declared.task_block.roots.RootField.TheVariants.{Running}
-use Rattle.kernel_model.specs.KernelRecord.Task.{is_guest_id}
+use Rattle.kernel_model.specs.KernelRecord.Task.{is_guest_id, is_held_state}
 use Rattle.kernel_model.specs.KernelRecord.ValidTasks.{no_regs}
 
 -- word 4 of the task block at t: its field, 2 more while it is held, and 1 more while packets wait
@@ -102,9 +102,9 @@ next_regs_in s r t packet = if is_guest_id (slice_index s (t + word_index Id)) t
 abbrev pub takes_packet_by : ℕ → ℕ → Bool
 takes_packet_by id state = is_guest_id id && nat_le 4 (state % 8)
 
--- a state of 2 modulo 4, or 3, is that of a held task; a field of 0 or 8 is below 4 modulo 8; the state is odd where packets wait
+-- whether a state is that of a ready task: it is not held, and its field is 0 or 8, so below 4 modulo 8, or packets wait, so it is odd
 abbrev pub is_ready_state : ℕ → Bool
-is_ready_state w = nat_lt (w % 4) 2 && (nat_lt (w % 8) 4 || (w % 2 == 1))
+is_ready_state w = not (is_held_state w) && (nat_lt (w % 8) 4 || (w % 2 == 1))
 
 -- the task at t is ready
 abbrev pub is_ready_in : List ℕ → ℕ → Bool

@@ -1,5 +1,5 @@
 -- A task: what the kernel knows of it, and the words that it owns.
-use Rattle.std.specs.Prelude.{ℕ, zero, suc, ◌+◌, ◌-◌, Bool, if◌then◌else◌, List, [], ◌∷◌, ◌++◌, drop, nat_le}
+use Rattle.std.specs.Prelude.{ℕ, zero, suc, ◌+◌, ◌-◌, ◌/◌, ◌%◌, ◌==◌, Bool, if◌then◌else◌, List, [], ◌∷◌, ◌++◌, drop, nat_le}
 use Rattle.word_store.specs.declared.registers.Regs.{Regs}
 use Rattle.kernel_lists.specs.OwnedWords.LinkedWords.{first_of}
 use Rattle.kernel_lists.specs.OwnedWords.Owned.{Pairs, row_from}
@@ -77,6 +77,10 @@ queue_bit (p ∷ ps) = 1
 -- the state: the field, 1 more where packets wait, and 2 more where the task is held
 abbrev pub state_word : Task → ℕ
 state_word t = t.field + queue_bit t.queue + (if t.held then 2 else 0)
+
+-- whether a state is that of a held task
+abbrev pub is_held_state : ℕ → Bool
+is_held_state w = w / 2 % 2 == 1
 
 -- so many words: those of the list, and then zeros
 abbrev pub filled : ℕ → List ℕ → List ℕ

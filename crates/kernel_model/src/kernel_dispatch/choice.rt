@@ -8,6 +8,7 @@ ghost use Rattle.kernel_model.specs.KernelRecord.Lists.{Lists};
 ghost use Rattle.kernel_model.specs.KernelDispatch.Dispatch.{first_ready_block};
 ghost use Rattle.kernel_model.specs.KernelDispatch.DispatchWords.{is_ready_in, is_ready_state};
 
+use crate::kernel_record::is_held_state;
 use kernel_lists::{TcbField, field, tasks};
 use word_store::Store;
 
@@ -42,5 +43,5 @@ fn is_ready(store: &Store, t: u32) -> bool
 fn has_ready_state(state: u32) -> bool
     ensures { result ≡ is_ready_state state }
 {
-    state % 4 < 2 && (state % 8 < 4 || state % 2 == 1)
+    !is_held_state(state) && (state % 8 < 4 || state % 2 == 1)
 }

@@ -42,7 +42,7 @@ pub const INTERRUPTED: u32 = 8;
 /// That of a dead one. Each other state of one that is dead is larger, and all other states are smaller.
 pub const DEAD: u32 = 12;
 
-/// By so much the state of a task is larger that is held.
+/// What is added to the state of a task while it is held.
 pub const HELD: u32 = 2;
 
 /// Where the data of the residents' block begin.

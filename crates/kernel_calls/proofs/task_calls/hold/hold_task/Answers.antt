@@ -18,14 +18,14 @@ returns-in_err-task c = λ l h.
     (leaves-refused c.args.store.now l (hold_tests l c.args.id) (done (with_task c.args.id held l)) c.in_err-task.field-0.0 h
     (first_refusal-failed (guest_tests l c.args.id) ((not (is_held l c.args.id), 16) ∷ []) c.in_err-task.field-0.0 (c.in_err-task.ensures l h)))
 
-pub returns-then-has_held_bit : goal.returns-then-has_held_bit
-returns-then-has_held_bit c = λ l h.
+pub returns-then-is_held_state : goal.returns-then-is_held_state
+returns-then-is_held_state c = λ l h.
     leaves-refused c.args.store.now l (hold_tests l c.args.id) (done (with_task c.args.id held l)) 16 h
-    (hold-refused c.args.store.now l c.args.id c.in_ok-task.task h (c.in_ok-task.ensures l h) (held-bit _ _ _ true c.field-state.ensures c.has_held_bit.ensures c.if-has_held_bit.true))
+    (hold-refused c.args.store.now l c.args.id c.in_ok-task.task h (c.in_ok-task.ensures l h) (held-bit _ _ _ true c.field-state.ensures c.is_held_state.ensures c.if-is_held_state.true))
 
 pub returns : goal.returns
 returns c = λ l h.
-    let free = held-bit _ _ _ false c.field-state.ensures c.has_held_bit.ensures c.if-has_held_bit.false in
+    let free = held-bit _ _ _ false c.field-state.ensures c.is_held_state.ensures c.if-is_held_state.false in
     leaves-accepted c.args.store.now l (hold_tests l c.args.id) (done (with_task c.args.id held l)) c.set_field.new.store (Ok minus_one)
     (hold-accepted c.args.store.now l c.args.id c.in_ok-task.task h (c.in_ok-task.ensures l h) free)
     (record {

@@ -18,14 +18,14 @@ returns-in_err-task c = λ l h.
     (leaves-refused c.args.store.now l (release_tests l c.args.id) (done (with_task c.args.id released l)) c.in_err-task.field-0.0 h
     (first_refusal-failed (guest_tests l c.args.id) ((is_held l c.args.id, 15) ∷ []) c.in_err-task.field-0.0 (c.in_err-task.ensures l h)))
 
-pub returns-then-not-has_held_bit : goal.returns-then-not-has_held_bit
-returns-then-not-has_held_bit c = λ l h.
+pub returns-then-not-is_held_state : goal.returns-then-not-is_held_state
+returns-then-not-is_held_state c = λ l h.
     leaves-refused c.args.store.now l (release_tests l c.args.id) (done (with_task c.args.id released l)) 15 h
-    (release-refused c.args.store.now l c.args.id c.in_ok-task.task h (c.in_ok-task.ensures l h) (held-bit _ _ _ false c.field-state.ensures c.has_held_bit.ensures c.if-not-has_held_bit.true))
+    (release-refused c.args.store.now l c.args.id c.in_ok-task.task h (c.in_ok-task.ensures l h) (held-bit _ _ _ false c.field-state.ensures c.is_held_state.ensures c.if-not-is_held_state.true))
 
 pub returns : goal.returns
 returns c = λ l h.
-    let held = held-bit _ _ _ true c.field-state.ensures c.has_held_bit.ensures c.if-not-has_held_bit.false in
+    let held = held-bit _ _ _ true c.field-state.ensures c.is_held_state.ensures c.if-not-is_held_state.false in
     leaves-accepted c.args.store.now l (release_tests l c.args.id) (done (with_task c.args.id released l)) c.set_field.new.store (Ok minus_one)
     (release-accepted c.args.store.now l c.args.id c.in_ok-task.task h (c.in_ok-task.ensures l h) held)
     (record {
