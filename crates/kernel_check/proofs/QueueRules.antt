@@ -3,6 +3,7 @@ use Rattle.std.proofs.Common.{◌≡◌, ◌≢◌, ◌↔◌, ◌⊎◌, inl, i
 use Rattle.std.specs.Prelude.{is_some}
 use Rattle.std.specs.List.{AllByRecursion}
 use Rattle.std.proofs.lemmas.Bool.{cases_eq, eq-eqb, false≢true, ne_eqb}
+use Rattle.std.proofs.Math.Bool.{and-false}
 use Rattle.kernel_lists.specs.PacketQueue.Queue.{no_queue}
 use Rattle.kernel_lists.specs.PacketQueue.QueueWords.{QueuedPacket}
 use Rattle.kernel_lists.specs.TaskBlock.TaskChain.{id_in, tasks_in}
@@ -15,7 +16,7 @@ use Rattle.kernel_model.specs.KernelRecord.ValidQueues.{MayStand, NeverFall, Pla
 use Rattle.kernel_model.specs.KernelRecord.ValidQueues.Place.{Work}
 use Rattle.kernel_check.specs.ListPasses.ClaimedStore.{IsClaimed}
 use Rattle.kernel_check.proofs.ListPasses.ClaimedWalks.{heads, of-tasks}
-use Rattle.kernel_check.proofs.ListPasses.FreePackets.{free-is, key-is, there-and}
+use Rattle.kernel_check.proofs.ListPasses.FreePackets.{free-is, key-is}
 use Rattle.kernel_check.proofs.ListPasses.TaskTable.{running-none}
 use Rattle.kernel_check.specs.ClaimedQueue.{IsClaimedQueue}
 use Rattle.kernel_check.specs.KnownTasks.{AreTasksKnown}
@@ -175,7 +176,7 @@ module _ (s : List ℕ) where
   key-free w read is there = key-some ∙ (λ i. there i && eq-eqb (get_or s 271 0) no_queue (sym read ∙ is) i)
 
   pub key-other : (w : ℕ) → w ≡ get_or s 271 0 → w ≢ 4294967295 → is_some (lists_in s).key ≡ false
-  key-other w read other = key-some ∙ ap (λ b. (lists_in s).residents && b) (ne_eqb (get_or s 271 0) no_queue (λ e. other (read ∙ e))) ∙ there-and (lists_in s).residents
+  key-other w read other = key-some ∙ ap (λ b. (lists_in s).residents && b) (ne_eqb (get_or s 271 0) no_queue (λ e. other (read ∙ e))) ∙ and-false (lists_in s).residents
 
   pub fault-absent : (Q : Bool) → has_task 2 (lists_in s).tasks ≡ false → (lists_in s).fault_packet_free ≡ (has_task 2 (lists_in s).tasks && not Q)
   fault-absent Q none = said-absent (lists_in s).fault_packet_free (has_task 2 (lists_in s).tasks) Q none (free-is s ∙ ap (λ b. b && ((lists_in s).residents && eqb (get_or s 310 0) no_queue)) none)
@@ -186,7 +187,7 @@ module _ (s : List ℕ) where
   pub fault-other : (w : ℕ) → w ≡ get_or s 310 0 → w ≢ 4294967295 → (lists_in s).fault_packet_free ≡ false
   fault-other w read other =
       free-is s ∙ ap (λ b. has_task 2 (lists_in s).tasks && ((lists_in s).residents && b)) (ne_eqb (get_or s 310 0) no_queue (λ e. other (read ∙ e)))
-      ∙ ap (λ b. has_task 2 (lists_in s).tasks && b) (there-and (lists_in s).residents) ∙ there-and (has_task 2 (lists_in s).tasks)
+      ∙ ap (λ b. has_task 2 (lists_in s).tasks && b) (and-false (lists_in s).residents) ∙ and-false (has_task 2 (lists_in s).tasks)
 
 -- ---- the running task
 

@@ -6,3 +6,4 @@ pub mod NewTask
 pub mod HeldTaskBlocks
 pub mod ChainExchanges
 pub mod TableEntries
+pub mod HeadWords

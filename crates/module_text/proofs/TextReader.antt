@@ -1,3 +1,4 @@
+pub mod EqualTexts
 pub mod FieldLemmas
 pub mod LineEnds
 pub mod NumberLemmas

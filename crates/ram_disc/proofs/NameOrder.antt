@@ -40,9 +40,6 @@ is_before-trans a b c h k = is_before-cmp a c (nat_list_cmp_total.trans a b c (c
 pub is_before-differ : (a b : List ℕ) → is_before a b ≡ true → a ≢ b
 is_before-differ a b h e = false≢true (sym (is_before-self a) ∙ ap (is_before a) e ∙ h)
 
-pub bytes_eq-self : (a : List ℕ) → bytes_eq a a ≡ true
-bytes_eq-self a = (bytes_eq-Decides a a).1 refl
-
 pub bytes_eq-other : (a b : List ℕ) → a ≢ b → bytes_eq a b ≡ false
 bytes_eq-other a b ne = on (bytes_eq a b) (bytes_eq-Decides a b).0
   where

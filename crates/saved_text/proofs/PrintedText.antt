@@ -13,7 +13,7 @@ use Rattle.module_text.proofs.TextReader.PlainLines.{IsPlain, lines_of_text_of_l
 use Rattle.ram_disc.specs.Name.{is_name}
 use Rattle.kernel_model.specs.KernelRecord.Ranges.{is_period, is_store_size, most_steps, most_words}
 use Rattle.session_text.specs.Ranges.{is_step}
-use Rattle.session_text.proofs.Parts.{all-append}
+use Rattle.word_store.proofs.Elements.{all-append}
 use Rattle.session_text.proofs.StatementTexts.{is_field-name}
 use Rattle.saved_text.specs.SavedLines.Canonical.{IsPrintable, printed_console, printed_regs, printed_ring, printed_shell, statement_text}
 use Rattle.saved_text.specs.SavedLines.Heads.{are_regs}

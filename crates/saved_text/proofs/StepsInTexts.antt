@@ -5,7 +5,7 @@ use Rattle.std.specs.List.{AllByRecursion}
 use Rattle.std.proofs.Math.Seq.{take-append_seam}
 use Rattle.module_text.specs.TextReader.Lines.{lines_of, text_of_lines}
 use Rattle.module_text.proofs.TextReader.PlainLines.{IsPlain, lines_of_text_of_lines, plain_append, plain_decimal, plain_literal}
-use Rattle.session_text.proofs.Parts.{all-append}
+use Rattle.word_store.proofs.Elements.{all-append}
 use Rattle.saved_text.specs.SavedLines.Canonical.{printed_regs, statement_text}
 use Rattle.saved_text.specs.SavedLines.Statements.{Statement, Go}
 use Rattle.saved_text.specs.Canonical.{IsLawful, canonical, canonical_lines, front_of, kernel_text, machine_text, with_steps}

@@ -17,7 +17,7 @@ use Rattle.session_text.specs.SessionOfText.{session_of}
 use Rattle.session_text.specs.Statements.{Statement, File, Task, At, Key, Go, States, is_text}
 use Rattle.session_text.specs.declared.sessions.Session.{Session}
 use Rattle.session_text.specs.declared.sessions.SessionLine.{SessionLine}
-use Rattle.session_text.proofs.Parts.{all-append}
+use Rattle.word_store.proofs.Elements.{all-append}
 use Rattle.session_text.proofs.Sound.{sound}
 
 -- ---- a bare machine

@@ -17,11 +17,6 @@ use Rattle.session_text.specs.declared.sessions.SessionLine.{SessionLine}
 use Rattle.session_text.specs.declared.sessions.LineForm.TheVariants.{File as FileForm}
 use Rattle.session_text.proofs.FileTexts.{with_text-push}
 
--- what holds of two lists holds of both
-pub all-append : {X : Type 0} (P : X → Type 0) (a b : List X) → AllByRecursion P a → AllByRecursion P b → AllByRecursion P (a ++ b)
-all-append P [] b h k = k
-all-append P (x ∷ xs) b h k = (h.0, all-append P xs b h.1 k)
-
 -- ---- text of a file
 
 -- lines of text for the last file, one after another

@@ -18,7 +18,7 @@ use Rattle.session_text.specs.Statements.{Statement, File, Task, At, Key, Go, St
 use Rattle.session_text.specs.declared.sessions.Session.{Session}
 use Rattle.session_text.specs.declared.sessions.SessionLine.{SessionLine}
 use Rattle.session_text.proofs.Advances.{BeginLines}
-use Rattle.session_text.proofs.Parts.{all-append}
+use Rattle.word_store.proofs.Elements.{all-append}
 
 -- ---- bytes
 

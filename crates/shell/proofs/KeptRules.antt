@@ -5,7 +5,7 @@ use Rattle.std.specs.Prelude.{find}
 use Rattle.std.specs.List.{AllByRecursion, list_any}
 use Rattle.std.proofs.lemmas.Bool.{eqb-true, false≢true}
 use Rattle.kernel_lists.specs.LinkedList.Places.{insert_after, without_first}
-use Rattle.kernel_lists.proofs.LinkedList.AllMembers.{all-append}
+use Rattle.word_store.proofs.Elements.{all-append, find-passes}
 use Rattle.word_store.specs.declared.registers.Regs.{Regs}
 use Rattle.kernel_lists.specs.PacketQueue.QueueWords.{QueuedPacket}
 use Rattle.kernel_model.specs.KernelRecord.Between.{FaultsStand, Tells, is_unreported}
@@ -21,7 +21,7 @@ use Rattle.kernel_model.specs.KernelRecord.ValidQueues.{MayStand}
 use Rattle.kernel_model.specs.KernelRecord.ValidQueues.Place.{Work}
 use Rattle.kernel_model.specs.KernelRecord.ValidTasks.{runs}
 use Rattle.kernel_model.proofs.KernelRecord.AllThings.{all-inserted}
-use Rattle.kernel_model.proofs.KernelRecord.EachMember.{all-each, find-passes}
+use Rattle.kernel_model.proofs.KernelRecord.EachMember.{all-each}
 use Rattle.kernel_model.proofs.KernelRecord.QueuePlaces.{place-stands}
 use Rattle.ram_disc.specs.Disc.{Disc}
 use Rattle.kernel_model.specs.KernelDispatch.Dispatch.{CanDispatch}

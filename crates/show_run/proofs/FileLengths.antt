@@ -11,7 +11,7 @@ use Rattle.session_text.specs.declared.sessions.SessionLine.{SessionLine}
 use Rattle.session_text.proofs.PrintedTexts.{text_of_lines-append}
 use Rattle.session_text.proofs.Sound.{sound}
 use Rattle.show_run.specs.ShortFiles.{HasShortFiles, IsShortLine}
-use Rattle.kernel_lists.proofs.LinkedList.AllMembers.{all-append}
+use Rattle.word_store.proofs.Elements.{all-append}
 
 -- ---- how long lines are, each with its end
 

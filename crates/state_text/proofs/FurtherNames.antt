@@ -7,6 +7,7 @@ use Rattle.std.proofs.lemmas.Bool.{cases_lt, false≢true, ne_eqb}
 use Rattle.std.proofs.lemmas.List.{drop_all, drop_more, get_or_past}
 use Rattle.kernel_lists.specs.TaskBlock.Versions.{head_words, module_index, most_modules}
 use Rattle.state_text.specs.ProgramNames.{first_name}
+use Rattle.kernel_lists.proofs.TaskBlock.HeadWords.{most-heads}
 
 -- the words that are not 0
 abbrev pub modules_among : List ℕ → List ℕ
@@ -15,10 +16,6 @@ modules_among ws = filter (λ m. not (m == 0)) ws
 -- no module is at 0
 abbrev pub name_unless_0 : (ℕ → Option (List ℕ)) → ℕ → Option (List ℕ)
 name_unless_0 name_at m = cond (m == 0) None (name_at m)
-
--- behind word 22 there is one word for each of them
-most-heads : (s : List ℕ) → head_words s ≡ 22 + most_modules s
-most-heads s = elim (get_or s 111 0 == 2) as (λ b. cond b 30 23 ≡ 22 + cond b 8 1) [ true ↦ refl | false ↦ refl ]
 
 or-some : (o r : Option (List ℕ)) → is_some o ≡ true → o ≡ option_or o r
 or-some (Some name) r some = refl

@@ -2,3 +2,4 @@ pub mod ByteOf
 pub mod Rows
 pub mod Wide
 pub mod Counts
+pub mod Elements

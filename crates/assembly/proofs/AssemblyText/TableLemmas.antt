@@ -16,6 +16,7 @@ use Rattle.assembly.specs.declared.assembly_text.statements.Line.{Line}
 use Rattle.assembly.specs.declared.assembly_text.statements.Statement.{Statement}
 use Rattle.assembly.proofs.AssemblyText.ProgramLemmas.{ComeNext, layout_after, size_later}
 use Rattle.assembly.proofs.AssemblyText.SurveyLemmas.{ComesNext}
+use Rattle.module_text.proofs.TextReader.EqualTexts.{bytes_eq-self}
 
 abbrev line_with : Option (List ℕ) → Statement → Line
 line_with label statement = record { label = label; statement = statement }
@@ -23,9 +24,6 @@ line_with label statement = record { label = label; statement = statement }
 false_from : {P : Type 0} (r : Bool) → Decides r P → ¬ P → r ≡ false
 false_from true d h = absurd (h (d.0 refl))
 false_from false d h = refl
-
-pub equal : (name : List ℕ) → bytes_eq name name ≡ true
-equal name = (bytes_eq-Decides name name).1 refl
 
 -- a label that the table has, and one that it has not, are two
 apart : (table : Table) (name new : List ℕ) (place : Place) → table name ≡ Some place → is_some (table new) ≡ false → (name ≡ new → ⊥)
@@ -51,7 +49,7 @@ fresh layout (line ∷ lines) name place come has =
 
 -- the table has a label that was just defined
 pub just_defined : (layout : Layout) (name : List ℕ) (s : Statement) → (with_line layout (line_with (Some name) s)).table name ≡ Some (named_place layout.offset s)
-just_defined layout name s = rw (equal name) refl
+just_defined layout name s = rw (bytes_eq-self name) refl
 
 distinct_by : (label : Option (List ℕ)) (s : Statement) (layout : Layout) (lines : List Line) → ComeNext (with_line layout (line_with label s)) lines → IsDistinct bytes_eq (labels_of lines) → IsDistinct bytes_eq (labels_of (line_with label s ∷ lines))
 unfolding IsDistinct

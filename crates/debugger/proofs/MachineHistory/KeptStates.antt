@@ -2,6 +2,7 @@
 use Rattle.std.proofs.Common.{◌≡◌, ℕ, suc, ◌+◌, ◌<◌, ◌≤◌, ◌&&◌, ◌⊎◌, inl, inr, Bool, true, false, cond, leb, List, [], ◌∷◌, ◌++◌, length, refl, ap, ◌∙◌, arith, append_assoc, length-append}
 use Rattle.std.specs.List.{AllByRecursion}
 use Rattle.std.proofs.lemmas.Bool.{le-leb, lt-leb}
+use Rattle.std.proofs.Math.Bool.{and-false}
 use Rattle.tripos_machine.specs.State.{State, words_of}
 use Rattle.debugger.specs.UndoJournal.Journals.{Past, changed_words, cut, differing, first_words, fits as fits_journal}
 use Rattle.debugger.specs.MachineHistory.Moments.{read, states}
@@ -47,12 +48,8 @@ module _ (now : State) where
   turns-more [] back = omega arith
   turns-more (s ∷ front) back = let rest = turns-more front back in omega (arith, rest)
 
-  and-none : (a : Bool) → (a && false) ≡ false
-  and-none true = refl
-  and-none false = refl
-
   too-many : (ss : List State) → most_turns < file_turns ss → fits ss now ≡ false
-  too-many ss many = ap (λ c. (leb (length ss) most_states && leb (changes ss now) most_changes) && c) (lt-leb (file_turns ss) most_turns many) ∙ and-none (leb (length ss) most_states && leb (changes ss now) most_changes)
+  too-many ss many = ap (λ c. (leb (length ss) most_states && leb (changes ss now) most_changes) && c) (lt-leb (file_turns ss) most_turns many) ∙ and-false (leb (length ss) most_states && leb (changes ss now) most_changes)
 
   -- of a past with too many turns the first of them goes, and all before it
   pub skipped : (front : List State) (s : State) (rest : List State) → most_turns < file_turns (s ∷ rest) → kept (front ++ s ∷ rest) now ≡ kept rest now

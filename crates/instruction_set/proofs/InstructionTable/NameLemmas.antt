@@ -10,6 +10,7 @@ use Rattle.instruction_set.specs.InstructionTable.Table.{Entry, entry, column0, 
 use Rattle.instruction_set.specs.InstructionTable.Names.{byte_named, has_name, name_at}
 use Rattle.instruction_set.specs.InstructionTable.Places.{kept_byte}
 use Rattle.instruction_set.proofs.InstructionTable.Entries.{passes_below, passes_at, entry_past}
+use Rattle.word_store.proofs.Elements.{find-passes}
 
 -- whether an entry has the name
 abbrev named_so : List ℕ → Option Entry → Bool
@@ -54,19 +55,10 @@ byte_named_at name byte e =
       | inr past ↦ let none = entry_past byte past in cc
     ]
 
--- what a search finds passes its test
-found_step : {X : Type 0} (p : X → Bool) (x y : X) (rest : Option X) (b : Bool) → p y ≡ b → (rest ≡ Some x → p x ≡ true) → cond b (Some y) rest ≡ Some x → p x ≡ true
-found_step p x y rest true e h found = cc
-found_step p x y rest false e h found = h found
-
-found_passes : {X : Type 0} (p : X → Bool) (xs : List X) (x : X) → find p xs ≡ Some x → p x ≡ true
-found_passes p [] x h = cc
-found_passes p (y ∷ ys) x h = found_step p x y (find p ys) (p y) refl (found_passes p ys x) h
-
 -- the row of the byte that is found has the name
 pub byte_named_has : (name : List ℕ) (byte : ℕ) → byte_named name ≡ Some byte → name_at byte ≡ Some name
 unfolding byte_named
-byte_named_has name byte h = has_name_from name byte (found_passes (has_name name) (range_with_len 0 256) byte h)
+byte_named_has name byte h = has_name_from name byte (find-passes (has_name name) (range_with_len 0 256) byte h)
 
 -- no two rows have one name
 pub once : (a b : ℕ) (name : List ℕ) → name_at a ≡ Some name → name_at b ≡ Some name → a ≡ b

@@ -4,6 +4,7 @@ use Rattle.std.specs.Prelude.{is_some}
 use Rattle.std.specs.List.{AllByRecursion, flat_map, list_any}
 use Rattle.std.proofs.lemmas.Bool.{false≢true}
 use Rattle.std.proofs.lemmas.List.Folds.{list_any-append}
+use Rattle.std.proofs.Math.Bool.{and-false}
 use Rattle.kernel_lists.specs.LinkedList.Places.{has}
 use Rattle.kernel_lists.specs.declared.getvec_chain.pieces.Block.{Block}
 use Rattle.kernel_lists.specs.GetvecChain.Block.{is_used_at}
@@ -20,7 +21,7 @@ use Rattle.kernel_model.specs.KernelRecord.KernelRanges.{has_residents}
 use Rattle.kernel_model.specs.KernelRecord.Lists.{Lists}
 use Rattle.kernel_model.specs.KernelRecord.Task.{Task, task_address}
 use Rattle.kernel_model.proofs.KernelRecord.BlockStarts.{holding-used_at}
-use Rattle.kernel_model.proofs.KernelRecord.EachMember.{find-passes}
+use Rattle.word_store.proofs.Elements.{find-passes}
 use Rattle.kernel_model.proofs.KernelRecord.FollowedBlocks.{IsWithin, found-holding, found-within}
 use Rattle.kernel_model.proofs.KernelRecord.ListRanges.{TaskReads}
 use Rattle.kernel_model.proofs.KernelRecord.WalkedLists.{residents-read, tasks-read}
@@ -99,11 +100,7 @@ module _ (s : List ℕ) (l : Lists) (v : ℕ) (h : HoldsLists s l) where
       )
 
   unused : (used_at v l.blocks ≡ None) → is_users_block l v ≡ false
-  unused none = ap (λ o. is_user (use_of_data l v) && is_some o) none ∙ and-none (is_user (use_of_data l v))
-    where
-      and-none : (x : Bool) → (x && false) ≡ false
-      and-none true = refl
-      and-none false = refl
+  unused none = ap (λ o. is_user (use_of_data l v) && is_some o) none ∙ and-false (is_user (use_of_data l v))
 
   -- no block holds v
   pub no-block : (o : Option Block) → o ≡ holding v (blocks_in s) → o ≡ None → is_users_block l v ≡ false

@@ -13,7 +13,7 @@ use Rattle.kernel_model.specs.KernelRecord.ChangedStore.{HasKeeper}
 use Rattle.kernel_model.specs.KernelRecord.Changes.{AreUnowned, IsIdleBlock}
 use Rattle.kernel_model.specs.KernelRecord.Lists.{Lists, queued}
 use Rattle.kernel_model.proofs.KernelRecord.ChangedLists.{knows-same}
-use Rattle.kernel_model.proofs.KernelRecord.EachMember.{find-passes}
+use Rattle.word_store.proofs.Elements.{find-passes}
 use Rattle.kernel_model.proofs.KernelRecord.FollowedBlocks.{IsWithin, found-within}
 use Rattle.kernel_calls.specs.CallAnswers.Made.{IsMade, Made, done, minus_one, unless_refused}
 use Rattle.kernel_calls.specs.CallAnswers.Refusals.{first_refusal}

@@ -12,7 +12,7 @@ use Rattle.kernel_lists.specs.GetvecChain.Tiling.{Follow, holding, used_at}
 use Rattle.kernel_lists.proofs.GetvecChain.Splits.{GiveSplit, give_split}
 use Rattle.kernel_lists.proofs.GetvecChain.UsedBlocks.{has_data-true, is_used_at-true}
 use Rattle.kernel_lists.specs.PacketQueue.QueueWords.{QueuedPacket}
-use Rattle.kernel_lists.proofs.LinkedList.AllMembers.{all-append}
+use Rattle.word_store.proofs.Elements.{all-append, find-passes}
 use Rattle.kernel_model.specs.KernelRecord.BlockUse.{use_of_data}
 use Rattle.kernel_model.specs.declared.kernel_record.uses.Use.TheVariants.{User}
 use Rattle.kernel_model.specs.KernelRecord.Changes.{AreUnowned, IsIdleBlock, with_blocks}
@@ -24,7 +24,7 @@ use Rattle.kernel_model.specs.KernelRecord.ValidQueues.Place.{Clock, Keyboard, O
 use Rattle.kernel_model.proofs.KernelRecord.AllThings.{all-fail, any-found}
 use Rattle.kernel_model.proofs.KernelRecord.BlockStarts.{store-Tiles, store_of}
 use Rattle.kernel_model.proofs.KernelRecord.DataLaw.{free-data}
-use Rattle.kernel_model.proofs.KernelRecord.EachMember.{all-each, find-passes}
+use Rattle.kernel_model.proofs.KernelRecord.EachMember.{all-each}
 use Rattle.kernel_model.proofs.KernelRecord.FollowedBlocks.{found-holding}
 use Rattle.kernel_model.proofs.KernelRecord.GivenBlocks.{given-valid}
 use Rattle.kernel_model.proofs.KernelRecord.OwnedPackets.{queued-owned}

@@ -41,7 +41,7 @@ use Rattle.kernel_model.specs.KernelRecord.ValidTasks.{IsCoroutine}
 use Rattle.kernel_model.proofs.KernelRecord.AllThings.{all-here}
 use Rattle.kernel_model.proofs.KernelRecord.ChangedLists.{changed-then, exchange-owned, one_task-owned}
 use Rattle.kernel_model.proofs.KernelRecord.CoroutineMoves.{gone_coroutine-unowned, gone_coroutine-valid}
-use Rattle.kernel_model.proofs.KernelRecord.EachMember.{find-passes}
+use Rattle.word_store.proofs.Elements.{find-passes}
 use Rattle.kernel_model.proofs.KernelRecord.TaskCounts.{owners-coroutine}
 use Rattle.kernel_model.proofs.KernelRecord.UnownedBlocks.{unowned-user}
 use Rattle.kernel_calls.specs.BlockCalls.Freevec.{has_packet_in, holds_packet, lies_in, with_given}

@@ -2,7 +2,7 @@
 use Rattle.std.proofs.Common.{◌≡◌, ℕ, suc, ◌+◌, ◌-◌, ◌<◌, List, [], ◌∷◌, ◌++◌, length, map, set, cond, eqb, true, false, inl, inr, refl, sym, ap, ◌∙◌, subst, arith, length-append}
 use Rattle.std.proofs.lemmas.Bool.{cases_lt, ne_eqb}
 use Rattle.kernel_lists.specs.LinkedList.Places.{has}
-use Rattle.kernel_lists.proofs.LinkedList.AllMembers.{all-append}
+use Rattle.word_store.proofs.Elements.{all-append}
 use Rattle.kernel_lists.specs.OwnedWords.LinkedWords.{first_of}
 use Rattle.kernel_lists.specs.OwnedWords.Owned.{Holds, Pairs, owners, written}
 use Rattle.kernel_lists.proofs.OwnedWords.OwnedWords.{Holds-same, length-written, written-other}

@@ -5,10 +5,7 @@ use Rattle.std.proofs.lemmas.Bool.{eq-eqb, ne_eqb}
 use Rattle.kernel_lists.specs.LinkedList.Places.{has}
 use Rattle.kernel_lists.specs.TaskBlock.Versions.{head_words, module_index, most_modules}
 use Rattle.word_store.proofs.Rows.{range_first, range_none}
-
--- behind word 22 there is one word for each of them
-pub most-heads : (s : List ℕ) → head_words s ≡ 22 + most_modules s
-most-heads s = elim (eqb (get_or s 111 0) 2) as (λ b. cond b 30 23 ≡ 22 + cond b 8 1) [ true ↦ refl | false ↦ refl ]
+use Rattle.kernel_lists.proofs.TaskBlock.HeadWords.{most-heads}
 
 module _ (s : List ℕ) (t m i most : ℕ) (fits : t + head_words s ≤ length s) (is : most ≡ most_modules s) (low : 2 ≤ i) where
   abbrev end : ℕ

@@ -4,7 +4,7 @@ use Rattle.std.specs.Prelude.{unwrap_or}
 use Rattle.std.specs.List.{AllByRecursion, flat_map, range_with_len}
 use Rattle.std.proofs.lemmas.Bool.{and_parts, cases_lt, eqb-true, leb-true}
 use Rattle.word_store.specs.Count.{times, words_of}
-use Rattle.kernel_lists.proofs.LinkedList.AllMembers.{all-back, all-front}
+use Rattle.word_store.proofs.Elements.{all-back, all-front}
 use Rattle.word_store.proofs.Counts.{hit-other, hit-same, range-high, range-low, times-above, times-within, times-words_more}
 use Rattle.kernel_lists.specs.OwnedWords.LinkedWords.{first_of, linked_words}
 use Rattle.kernel_lists.specs.OwnedWords.Owned.{Pairs, owners}

@@ -18,7 +18,7 @@ use Rattle.kernel_model.specs.KernelRecord.Owned.{owned}
 use Rattle.kernel_model.specs.KernelRecord.Task.{task_id}
 use Rattle.kernel_model.specs.KernelRecord.ValidLists.{AreValid}
 use Rattle.kernel_model.specs.KernelRecord.ValidQueues.{Place}
-use Rattle.kernel_lists.proofs.LinkedList.AllMembers.{all-append}
+use Rattle.word_store.proofs.Elements.{all-append}
 use Rattle.kernel_model.proofs.KernelRecord.AllThings.{all-beside, all-here}
 use Rattle.kernel_model.proofs.KernelRecord.OwnerCounts.{owners-packet_between, packets_count}
 use Rattle.kernel_model.proofs.KernelRecord.QueueCounts.{owned-queue, owners-packet}

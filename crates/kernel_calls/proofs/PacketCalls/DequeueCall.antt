@@ -34,7 +34,7 @@ use Rattle.kernel_calls.specs.declared.packet_calls.dequeue.Found.{Found}
 use Rattle.kernel_calls.proofs.PacketCalls.Departure.{departed-changed, owners-departed, packet-inside}
 use Rattle.kernel_calls.proofs.PacketCalls.HeldPlaces.{StandsBetween, has-at, stands-at, stands-between}
 use Rattle.kernel_calls.proofs.PacketCalls.KeptWords.{changed-plain}
-use Rattle.kernel_calls.proofs.PacketCalls.PacketTests.{found-passes}
+use Rattle.word_store.proofs.Elements.{find-passes}
 use Rattle.kernel_calls.proofs.PacketCalls.Searches.{IsFound}
 use Rattle.std.proofs.lemmas.Bool.{or_parts}
 
@@ -68,7 +68,7 @@ module _ (s : List ℕ) (tells : List ℕ → Type 0) (room : ℕ) (l : Lists) (
     some-found = ap is_some x.found
 
     between : StandsBetween p (queue_of w.place l)
-    between = stands-between p (queue_of w.place l) (found-passes (λ z. stands_in p (queue_of z.place l)) (searches l id) w x.found)
+    between = stands-between p (queue_of w.place l) (find-passes (λ z. stands_in p (queue_of z.place l)) (searches l id) w x.found)
 
     abbrev q : QueuedPacket
     q = between.packet
@@ -82,7 +82,7 @@ module _ (s : List ℕ) (tells : List ℕ → Type 0) (room : ℕ) (l : Lists) (
     pub found-packet : has p (queue_at s (head_of f.queue)) ≡ true
     found-packet =
         subst (λ (z : Found). has p (queue_at s (head_of z.queue)) ≡ true) (sym x.located)
-        (has-at s l w.place k.lists place p ∙ found-passes (λ z. stands_in p (queue_of z.place l)) (searches l id) w x.found)
+        (has-at s l w.place k.lists place p ∙ find-passes (λ z. stands_in p (queue_of z.place l)) (searches l id) w x.found)
 
     -- it may be taken back
     module _ (names : is_destination l id ≡ true) (plain : is_residents_packet l p ≡ false) where

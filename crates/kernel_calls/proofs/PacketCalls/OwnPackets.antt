@@ -4,7 +4,7 @@ use Rattle.std.specs.List.{AllByRecursion, range_with_len}
 use Rattle.std.proofs.lemmas.Bool.{and_parts, eq-eqb, ne_eqb}
 use Rattle.word_store.specs.Arithmetic.{signed}
 use Rattle.word_store.specs.Count.{times}
-use Rattle.kernel_lists.proofs.LinkedList.AllMembers.{all-append}
+use Rattle.word_store.proofs.Elements.{all-append}
 use Rattle.kernel_lists.specs.OwnedWords.Exchange.{Exchange}
 use Rattle.kernel_lists.specs.OwnedWords.Owned.{Holds, Pairs, owners}
 use Rattle.kernel_lists.proofs.OwnedWords.RowWords.{owners-row}

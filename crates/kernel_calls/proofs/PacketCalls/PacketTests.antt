@@ -16,15 +16,6 @@ use Rattle.kernel_calls.specs.CallAnswers.Refusals.{answer_of, first_refusal}
 use Rattle.kernel_calls.specs.PacketCalls.Qpkt.{is_lodged, is_plain, packet_tests}
 use Rattle.kernel_calls.proofs.CallAnswers.Refusals.{answer_of-err}
 
--- what was found passes the test
-pub found-passes : {X : Type 0} (f : X → Bool) (xs : List X) (x : X) → find f xs ≡ Some x → f x ≡ true
-found-passes f [] x e = cc
-found-passes {X} f (z ∷ zs) x e = on (f z) refl e (found-passes f zs x)
-  where
-    on : (b : Bool) → f z ≡ b → cond b (Some z) (find f zs) ≡ Some x → (find f zs ≡ Some x → f x ≡ true) → f x ≡ true
-    on true is e more = (let same : z ≡ x = cc in ap f (sym same) ∙ is)
-    on false is e more = more e
-
 -- ---- data of one used block
 
 pub lodged-data : (l : Lists) (p : ℕ) → is_lodged l p ≡ true → AreData l.blocks p 5

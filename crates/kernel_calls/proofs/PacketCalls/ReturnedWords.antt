@@ -2,7 +2,7 @@
 use Rattle.std.proofs.Common.{◌≡◌, ℕ, ◌+◌, ◌<◌, List, [], ◌∷◌, ◌++◌, true, get_or, length, map, refl, sym, ap, ◌∙◌, subst, arith, get_or-set_other}
 use Rattle.std.specs.List.{AllByRecursion, range_with_len}
 use Rattle.word_store.specs.Count.{IsApart, times}
-use Rattle.kernel_lists.proofs.LinkedList.AllMembers.{all-append}
+use Rattle.word_store.proofs.Elements.{all-append}
 use Rattle.word_store.proofs.Counts.{times-within}
 use Rattle.kernel_lists.specs.OwnedWords.Owned.{Pairs, owners}
 use Rattle.kernel_lists.specs.OwnedWords.Written.{IsWritten}

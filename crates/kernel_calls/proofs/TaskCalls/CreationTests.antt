@@ -14,7 +14,8 @@ use Rattle.kernel_model.specs.KernelRecord.Lists.{Lists, has_task}
 use Rattle.kernel_model.specs.KernelRecord.Task.{Task}
 use Rattle.kernel_model.specs.KernelRecord.Versions.{highest_id_of}
 use Rattle.kernel_model.proofs.KernelRecord.AllThings.{all-fail, all-from_both}
-use Rattle.kernel_model.proofs.KernelRecord.EachMember.{all-each, find-passes}
+use Rattle.word_store.proofs.Elements.{find-passes}
+use Rattle.kernel_model.proofs.KernelRecord.EachMember.{all-each}
 use Rattle.kernel_model.proofs.KernelRecord.RootCounts.{highest-low}
 use Rattle.kernel_model.proofs.KernelRecord.TaskPlaces.{TaskPlace, task-places}
 use Rattle.kernel_calls.specs.CallAnswers.Made.{IsMade, Made, by_refusal, unless_refused}

@@ -6,7 +6,7 @@ use Rattle.std.proofs.lemmas.Bool.{cases_lt, eq-eqb, eqb-true, false≢true, ne_
 use Rattle.std.proofs.lemmas.List.Folds.{list_any-append}
 use Rattle.word_store.specs.Count.{IsApart, times}
 use Rattle.kernel_lists.specs.LinkedList.Places.{has, without_first}
-use Rattle.kernel_lists.proofs.LinkedList.AllMembers.{all-front}
+use Rattle.word_store.proofs.Elements.{all-front}
 use Rattle.word_store.proofs.Counts.{hit-same, times-above, times-append, times-within}
 use Rattle.kernel_lists.proofs.LinkedList.MappedLists.{map-append}
 use Rattle.kernel_lists.proofs.LinkedList.Members.{has-here, has-there}

@@ -4,7 +4,7 @@ use Rattle.std.specs.Prelude.{slice_range, sum}
 use Rattle.std.specs.List.{AllByRecursion, flat_map}
 use Rattle.std.proofs.lemmas.List.Sums.{sum_by-cons}
 use Rattle.kernel_lists.specs.LinkedList.Places.{has}
-use Rattle.kernel_lists.proofs.LinkedList.AllMembers.{all-append}
+use Rattle.word_store.proofs.Elements.{all-append}
 use Rattle.word_store.proofs.Rows.{range_same}
 use Rattle.kernel_lists.specs.TaskBlock.Lists.{modules_in}
 use Rattle.kernel_lists.specs.HunkLoader.Globals.{Global, globals_in, globals_of_hunk, with_globals}

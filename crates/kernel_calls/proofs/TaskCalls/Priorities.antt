@@ -5,7 +5,7 @@ use Rattle.std.specs.List.{AllByRecursion, list_any}
 use Rattle.std.proofs.lemmas.Bool.{eq-eqb, ne_eqb}
 use Rattle.word_store.specs.Count.{IsApart, times}
 use Rattle.kernel_lists.specs.LinkedList.Places.{without_first}
-use Rattle.kernel_lists.proofs.LinkedList.AllMembers.{all-front}
+use Rattle.word_store.proofs.Elements.{all-front}
 use Rattle.word_store.proofs.Counts.{hit-same}
 use Rattle.kernel_lists.specs.TaskBlock.TaskChain.{id_in, is_priority_used, priority_in}
 use Rattle.kernel_model.specs.KernelRecord.HoldsLists.{HoldsLists}

@@ -2,6 +2,7 @@
 use Rattle.std.proofs.Common.{◌≡◌, ◌≢◌, ◌↔◌, ℕ, ◌&&◌, Bool, true, false, Some, None, List, [], ◌∷◌, ◌++◌, cond, eqb, get_or, map, refl, sym, ap, ◌∙◌, subst}
 use Rattle.std.specs.List.{AllByRecursion, list_any}
 use Rattle.std.proofs.lemmas.Bool.{eq-eqb, ne_eqb}
+use Rattle.std.proofs.Math.Bool.{and-false}
 use Rattle.kernel_lists.specs.LinkedList.Chain.{IsChain}
 use Rattle.kernel_lists.specs.OwnedWords.Owned.{Holds, Pairs}
 use Rattle.kernel_lists.proofs.OwnedWords.OwnedWords.{Holds-append, Holds-left, Holds-right}
@@ -22,14 +23,10 @@ pub key-is : (s : List ℕ) → (lists_in s).key ≡ cond ((lists_in s).resident
 unfolding lists_in
 key-is s = refl
 
-pub there-and : (r : Bool) → (r && false) ≡ false
-there-and true = refl
-there-and false = refl
-
 pub key-queued : (s : List ℕ) (w : ℕ) → w ≡ get_or s 271 0 → w ≢ 4294967295 → Holds s (key_words (lists_in s).key)
 key-queued s w read other =
     let none : (lists_in s).key ≡ None = key-is s ∙ ap (λ b. cond ((lists_in s).residents && b) (Some (get_or s 274 0)) None) (ne_eqb (get_or s 271 0) no_queue (λ e. other (read ∙ e)))
-    ∙ ap (λ b. cond b (Some (get_or s 274 0)) None) (there-and (lists_in s).residents) in
+    ∙ ap (λ b. cond b (Some (get_or s 274 0)) None) (and-false (lists_in s).residents) in
     subst (λ k. Holds s (key_words k)) (sym none) tt
 
 pub key-free : (s : List ℕ) (w : ℕ) → (lists_in s).residents ≡ true → w ≡ get_or s 271 0 → w ≡ 4294967295
@@ -56,7 +53,7 @@ pub fault-queued : (s : List ℕ) (w : ℕ) → w ≡ get_or s 310 0 → w ≢ 4
 fault-queued s w read other =
     let not-free : (lists_in s).fault_packet_free ≡ false =
     free-is s ∙ ap (λ b. has_task 2 (lists_in s).tasks && ((lists_in s).residents && b)) (ne_eqb (get_or s 310 0) no_queue (λ e. other (read ∙ e)))
-    ∙ ap (λ b. has_task 2 (lists_in s).tasks && b) (there-and (lists_in s).residents) ∙ there-and (has_task 2 (lists_in s).tasks)
+    ∙ ap (λ b. has_task 2 (lists_in s).tasks && b) (and-false (lists_in s).residents) ∙ and-false (has_task 2 (lists_in s).tasks)
     in
     subst (λ b. Holds s (fault_packet_words b)) (sym not-free) tt
 

@@ -12,7 +12,7 @@ use Rattle.kernel_model.specs.KernelRecord.ValidBlocks.{HasBlock}
 use Rattle.store_claims.specs.WordClaims.Marks.{IsSet, is_open}
 use Rattle.store_claims.proofs.WordClaims.ClaimedWords.{open-low}
 use Rattle.kernel_check.specs.ListPasses.StartMarks.{IsShut, OpensMembers, OpensStarts, starts_at}
-use Rattle.std.proofs.Math.Bool.{or_assoc}
+use Rattle.std.proofs.Math.Bool.{or-false, or_assoc}
 
 -- one word is opened
 opened-one : (m v : List Bool) (p a : ℕ) → IsSet m v p 1 true → a < length m → is_open v a ≡ (is_open m a || eqb p a)
@@ -26,10 +26,6 @@ opened-one m v p a set low = set.marks a low ∙ ap (λ z. cond z true (is_open 
     turn true false = refl
     turn false true = refl
     turn false false = refl
-
-or-false : (x : Bool) → (x || false) ≡ x
-or-false true = refl
-or-false false = refl
 
 shut-false : (s : List ℕ) (m : List Bool) (a : ℕ) → IsShut s m → is_open m a ≡ false
 shut-false s m a shut = on (is_open m a) refl

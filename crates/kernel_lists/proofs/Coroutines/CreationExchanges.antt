@@ -1,7 +1,8 @@
 -- What a create and a delete exchange of the words that coroutines and blocks own.
 use Rattle.std.proofs.Common.{◌≡◌, ℕ, ◌+◌, List, [], ◌∷◌, ◌++◌, get_or, map, set, Bool, true, false, Some, None, Ok, refl, sym, ap, ◌∙◌}
 use Rattle.kernel_lists.specs.LinkedList.Places.{has}
-use Rattle.kernel_lists.proofs.LinkedList.AllMembers.{all-back, all-has}
+use Rattle.word_store.proofs.Elements.{all-back}
+use Rattle.kernel_lists.proofs.LinkedList.AllMembers.{all-has}
 use Rattle.kernel_lists.specs.declared.getvec_chain.pieces.Block.{Block}
 use Rattle.kernel_lists.specs.GetvecChain.Tiling.{used_at}
 use Rattle.kernel_lists.proofs.GetvecChain.AfterTake.{AfterTake, after_take}

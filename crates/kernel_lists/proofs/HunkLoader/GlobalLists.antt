@@ -4,6 +4,7 @@ use Rattle.std.specs.Prelude.{slice_range}
 use Rattle.std.specs.List.{AllByRecursion}
 use Rattle.std.proofs.lemmas.Bool.Decides.{nat_tests}
 use Rattle.std.proofs.lemmas.List.{get_or-drop, length-drop, reverse-append, take_more}
+use Rattle.word_store.proofs.Elements.{all-append}
 use Rattle.word_store.specs.Arithmetic.{add, mul}
 use Rattle.word_store.proofs.Rows.{range_first, range_none}
 use Rattle.kernel_lists.specs.HunkLoader.Globals.{Global, global, global_of_number, globals_back, globals_of_hunk, globals_of_pairs, highest, with_globals}
@@ -34,10 +35,6 @@ with_globals-other s g from end (x ∷ xs) a all clear low high =
     by (inl before) = λ e. absurd (omega arith)
     by (inr after) = λ e. absurd (omega arith)
 
-all-append : (xs ys : List Global) → AreGlobals xs → AreGlobals ys → AreGlobals (xs ++ ys)
-all-append [] ys h k = k
-all-append (x ∷ xs) ys h k = (h.0, all-append xs ys h.1 k)
-
 pub number-is : (number value : ℕ) → AreGlobals (global_of_number number value)
 number-is number value = on (nat_le 1 number) (nat_le number 1000) refl
   where
@@ -50,7 +47,7 @@ number-is number value = on (nat_le 1 number) (nat_le number 1000) refl
 pairs-are : (base : ℕ) (words : List ℕ) → AreGlobals (globals_of_pairs base words)
 pairs-are base [] = tt
 pairs-are base (offset ∷ []) = tt
-pairs-are base (offset ∷ number ∷ before) = on (nat_eq offset 0) (all-append (global_of_number number (add (mul 4 base) offset)) (globals_of_pairs base before) (number-is number (add (mul 4 base) offset)) (pairs-are base before))
+pairs-are base (offset ∷ number ∷ before) = on (nat_eq offset 0) (all-append (λ x. x.number ≤ 1000) (global_of_number number (add (mul 4 base) offset)) (globals_of_pairs base before) (number-is number (add (mul 4 base) offset)) (pairs-are base before))
   where
     on : (b : Bool) → AreGlobals (global_of_number number (add (mul 4 base) offset) ++ globals_of_pairs base before)
         → AreGlobals (cond b [] (global_of_number number (add (mul 4 base) offset) ++ globals_of_pairs base before))

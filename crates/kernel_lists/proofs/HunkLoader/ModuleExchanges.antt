@@ -6,7 +6,7 @@ use Rattle.kernel_lists.proofs.GetvecChain.BlockExchanges.{give-exchange, take-e
 use Rattle.kernel_lists.proofs.GetvecChain.UsedBlocks.{UsedBlock, used_at-is}
 use Rattle.module_text.specs.declared.modules.Hunk.{Hunk}
 use Rattle.kernel_lists.specs.LinkedList.Places.{has, without_node}
-use Rattle.kernel_lists.proofs.LinkedList.AllMembers.{all-back}
+use Rattle.word_store.proofs.Elements.{all-back}
 use Rattle.kernel_lists.proofs.LinkedList.Members.{has-here, has-there}
 use Rattle.kernel_lists.specs.OwnedWords.Owned.{row_from, written}
 use Rattle.kernel_lists.proofs.OwnedWords.Exchanges.{exchange-insert, exchange-remove}

@@ -25,18 +25,6 @@ pub all-map : (P Q : ℕ → Type 0) (ps : List ℕ) → ((p : ℕ) → 0 < time
 all-map P Q [] each all = tt
 all-map P Q (p ∷ ps) each all = (each p (omega (arith, hit-same p p refl)) all.0, all-map P Q ps (λ q some. each q (omega arith)) all.1)
 
-pub all-append : {X : Type 0} (P : X → Type 0) (xs ys : List X) → AllByRecursion P xs → AllByRecursion P ys → AllByRecursion P (xs ++ ys)
-all-append P [] ys h k = k
-all-append P (x ∷ xs) ys h k = (h.0, all-append P xs ys h.1 k)
-
-pub all-front : {X : Type 0} (P : X → Type 0) (xs ys : List X) → AllByRecursion P (xs ++ ys) → AllByRecursion P xs
-all-front P [] ys h = tt
-all-front P (x ∷ xs) ys h = (h.0, all-front P xs ys h.1)
-
-pub all-back : {X : Type 0} (P : X → Type 0) (xs ys : List X) → AllByRecursion P (xs ++ ys) → AllByRecursion P ys
-all-back P [] ys h = h
-all-back P (x ∷ xs) ys h = all-back P xs ys h.1
-
 pub all-insert : (P : ℕ → Type 0) (f : ℕ → Bool) (t : ℕ) (ts : List ℕ) → P t → AllByRecursion P ts → AllByRecursion P (insert_after f t ts)
 all-insert P f t [] h all = (h, tt)
 all-insert P f t (q ∷ qs) h all =

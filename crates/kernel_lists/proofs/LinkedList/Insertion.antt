@@ -7,7 +7,7 @@ use Rattle.kernel_lists.specs.LinkedList.Places.{linked_in}
 use Rattle.kernel_lists.specs.LinkedList.Changed.{InsertedAt}
 use Rattle.word_store.proofs.Counts.{hit-same, times-words_more, times-words_of}
 use Rattle.kernel_lists.proofs.LinkedList.Chains.{IsChain-same, cells-apart, last_cell-inside, nodes-same, times-cells, times-link}
-use Rattle.kernel_lists.proofs.LinkedList.AllMembers.{all-append, all-front, all-back}
+use Rattle.word_store.proofs.Elements.{all-append, all-back, all-front}
 
 -- the last cell of a front is one of all the cells
 pub times-front_cell : (link : ℕ → ℕ) (at : ℕ) (xs ys : List ℕ) → 0 < times (last_cell link at xs) (cells link at (xs ++ ys))

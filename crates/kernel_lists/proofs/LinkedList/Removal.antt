@@ -9,7 +9,7 @@ use Rattle.kernel_lists.specs.LinkedList.Changed.{RemovedAt}
 use Rattle.word_store.proofs.Counts.{hit-same, times-words_more, times-words_of}
 use Rattle.kernel_lists.proofs.LinkedList.Chains.{IsChain-same, cells-apart, last_cell-inside, nodes-same, times-cells}
 use Rattle.kernel_lists.proofs.LinkedList.Insertion.{front_cell-differs, times-front_cell}
-use Rattle.kernel_lists.proofs.LinkedList.AllMembers.{all-back, all-front, all-append}
+use Rattle.word_store.proofs.Elements.{all-append, all-back, all-front}
 
 chain-remove : (s t : List ℕ) (link : ℕ → ℕ) (at : ℕ) (xs ys : List ℕ) (p : ℕ) → IsChain s link at (xs ++ p ∷ ys) → IsApart (cells link at (xs ++ p ∷ ys))
     → get_or t (last_cell link at xs) 0 ≡ get_or s (link p) 0

@@ -5,7 +5,7 @@ use Rattle.kernel_lists.specs.LinkedList.Chain.{last_cell}
 use Rattle.word_store.specs.Count.{times, words_of}
 use Rattle.kernel_lists.specs.LinkedList.Linked.{IsListAt, IsNode}
 use Rattle.kernel_lists.specs.LinkedList.Places.{cell_after, linked_in}
-use Rattle.kernel_lists.proofs.LinkedList.AllMembers.{all-back, all-front}
+use Rattle.word_store.proofs.Elements.{all-back, all-front}
 use Rattle.word_store.proofs.Counts.{times-words_more, times-words_of}
 use Rattle.kernel_lists.proofs.LinkedList.MappedLists.{cell_after-map, cell_after-same, last_cell-map, map-append}
 use Rattle.kernel_lists.proofs.LinkedList.Places.{IsPlace, place}

@@ -6,7 +6,7 @@ use Rattle.std.proofs.lemmas.Bool.{cases_eq}
 use Rattle.std.proofs.lemmas.Bool.Decides.{nat_tests}
 use Rattle.word_store.specs.Count.{times}
 use Rattle.kernel_lists.specs.LinkedList.Places.{cell_after, linked_in}
-use Rattle.kernel_lists.proofs.LinkedList.AllMembers.{all-back}
+use Rattle.word_store.proofs.Elements.{all-back}
 use Rattle.word_store.proofs.Counts.{hit-other, hit-same, times-append}
 use Rattle.kernel_lists.proofs.LinkedList.MappedLists.{cell_after-map, cell_after-same, map-append}
 use Rattle.kernel_lists.proofs.LinkedList.Places.{IsPlace, place}

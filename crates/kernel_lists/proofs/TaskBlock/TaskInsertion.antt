@@ -11,7 +11,8 @@ use Rattle.word_store.proofs.Counts.{hit-other, hit-same, times-append, times-wi
 use Rattle.kernel_lists.proofs.LinkedList.Chains.{times-cells}
 use Rattle.kernel_lists.proofs.LinkedList.Frames.{list-set, word-no_cell}
 use Rattle.kernel_lists.proofs.LinkedList.Insertion.{times-front_cell}
-use Rattle.kernel_lists.proofs.LinkedList.AllMembers.{all-back, all-front, all-append, all-insert}
+use Rattle.word_store.proofs.Elements.{all-append, all-back, all-front}
+use Rattle.kernel_lists.proofs.LinkedList.AllMembers.{all-insert}
 use Rattle.kernel_lists.proofs.LinkedList.Lists.{list-cell, list-insert, list-inserted}
 use Rattle.kernel_lists.proofs.LinkedList.Places.{IsPlace, place}
 use Rattle.kernel_lists.specs.TaskBlock.Moves.{link_above, with_task}

@@ -11,7 +11,7 @@ use Rattle.word_store.proofs.Counts.{hit-other, times-append, times-within, time
 use Rattle.kernel_lists.proofs.LinkedList.Chains.{times-cells}
 use Rattle.kernel_lists.proofs.LinkedList.Frames.{list-set, word-no_cell}
 use Rattle.kernel_lists.proofs.LinkedList.Insertion.{times-front_cell}
-use Rattle.kernel_lists.proofs.LinkedList.AllMembers.{all-back, all-front, all-append}
+use Rattle.word_store.proofs.Elements.{all-append, all-back, all-front}
 use Rattle.kernel_lists.proofs.LinkedList.Lists.{list-node, list-remove, list-removed}
 use Rattle.kernel_lists.proofs.LinkedList.Places.{NodePlace, stands}
 use Rattle.kernel_lists.specs.TaskBlock.Moves.{without_task}

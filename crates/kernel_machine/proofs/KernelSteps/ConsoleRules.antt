@@ -3,7 +3,7 @@ use Rattle.std.proofs.Common.{◌≡◌, ℕ, ◌-◌, ◌≤◌, ◌&&◌, ◌|
 use Rattle.std.specs.List.{AllByRecursion}
 use Rattle.std.proofs.lemmas.Bool.{ltb-true}
 use Rattle.std.proofs.lemmas.List.{length-append, length-take}
-use Rattle.kernel_lists.proofs.LinkedList.AllMembers.{all-append}
+use Rattle.word_store.proofs.Elements.{all-append}
 use Rattle.kernel_lists.specs.PacketQueue.QueueWords.{QueuedPacket}
 use Rattle.kernel_model.specs.KernelRecord.Changes.{HasPlace, change_of, queue_of, with_queue, with_task, with_work}
 use Rattle.kernel_model.specs.KernelRecord.Kernel.{Console}

@@ -13,7 +13,8 @@ use Rattle.kernel_model.specs.KernelRecord.Changes.{change_of}
 use Rattle.kernel_model.specs.KernelRecord.Running.{RunsAs, RunsIf}
 use Rattle.kernel_model.specs.KernelRecord.Task.{Task, is_guest_id, task_id}
 use Rattle.kernel_model.specs.KernelRecord.ValidTasks.{no_regs, runs}
-use Rattle.kernel_model.proofs.KernelRecord.EachMember.{all-each, find-passes}
+use Rattle.word_store.proofs.Elements.{find-passes}
+use Rattle.kernel_model.proofs.KernelRecord.EachMember.{all-each}
 use Rattle.kernel_model.specs.KernelDispatch.Dispatch.{entry_regs, guest_regs, resumed, resumed_regs, suspended}
 use Rattle.kernel_machine.proofs.KernelSteps.FoundTask.{only-found}
 

@@ -5,7 +5,7 @@ use Rattle.std.specs.List.{AllByRecursion, flat_map, list_any}
 use Rattle.std.proofs.lemmas.Bool.{and_parts, eq-eqb, eqb-true, false≢true, leb-true, ne_eqb, or_left, or_right, or_parts}
 use Rattle.std.proofs.lemmas.List.Folds.{list_any-append}
 use Rattle.kernel_lists.specs.LinkedList.Places.{insert_after, without_first}
-use Rattle.kernel_lists.proofs.LinkedList.AllMembers.{all-append}
+use Rattle.word_store.proofs.Elements.{all-append, find-passes}
 use Rattle.kernel_lists.specs.PacketQueue.QueueWords.{QueuedPacket}
 use Rattle.kernel_model.specs.KernelRecord.Between.{FaultsStand, Tells, has_unreported, is_unreported}
 use Rattle.kernel_model.specs.KernelRecord.Changes.{change_of, queue_of, with_new_task, with_queue, with_task, with_work, work_of}
@@ -16,7 +16,6 @@ use Rattle.kernel_model.specs.KernelRecord.Task.{Task, is_guest_id}
 use Rattle.kernel_model.specs.KernelRecord.ValidLists.{AreValid}
 use Rattle.kernel_model.specs.KernelRecord.ValidQueues.{Place}
 use Rattle.kernel_model.specs.KernelRecord.ValidQueues.Place.{Clock, Keyboard, Output, Pending, Work}
-use Rattle.kernel_model.proofs.KernelRecord.EachMember.{find-passes}
 use Rattle.kernel_calls.specs.PacketCalls.PacketMoves.{arrived, with_arrived}
 use Rattle.kernel_calls.specs.TaskCalls.ChangePri.{moved}
 use Rattle.kernel_calls.specs.TaskCalls.DeleteTask.{has_packet_out, resident_packets, without_task}

@@ -2,7 +2,7 @@
 use Rattle.std.proofs.Common.{◌≡◌, List, [], ◌∷◌, ◌++◌, map, ◌&&◌, ◌||◌, Bool, true, false, refl, sym, ap, subst}
 use Rattle.std.specs.List.{AllByRecursion, flat_map, list_any}
 use Rattle.kernel_lists.specs.LinkedList.Places.{insert_after}
-use Rattle.kernel_lists.proofs.LinkedList.AllMembers.{all-append, all-back, all-front}
+use Rattle.word_store.proofs.Elements.{all-append, all-back, all-front}
 use Rattle.kernel_lists.proofs.LinkedList.Places.{IsPlace, place}
 
 pub all-always : {X : Type 0} (P : X → Type 0) → ((x : X) → P x) → (xs : List X) → AllByRecursion P xs

@@ -1,7 +1,7 @@
 -- The blocks change, and the lists stay valid.
 use Rattle.std.proofs.Common.{◌≡◌, ℕ, ◌-◌, List, ◌++◌, true, refl}
 use Rattle.std.specs.List.{AllByRecursion}
-use Rattle.kernel_lists.proofs.LinkedList.AllMembers.{all-back, all-front}
+use Rattle.word_store.proofs.Elements.{all-back, all-front}
 use Rattle.kernel_lists.specs.declared.getvec_chain.pieces.Block.{Block}
 use Rattle.kernel_lists.specs.GetvecChain.Tiling.{Follow}
 use Rattle.kernel_lists.specs.PacketQueue.QueueWords.{QueuedPacket}

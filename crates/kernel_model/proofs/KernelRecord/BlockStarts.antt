@@ -13,7 +13,7 @@ use Rattle.kernel_lists.specs.GetvecChain.Tiling.{Follow, Tiles, holding, used_a
 use Rattle.kernel_lists.proofs.GetvecChain.SizeWords.{Follow-order, length-with_size_words, with_size_words-Tiles}
 use Rattle.kernel_lists.proofs.GetvecChain.UsedBlocks.{has_data-true}
 use Rattle.kernel_model.specs.KernelRecord.ValidBlocks.{AreData}
-use Rattle.kernel_model.proofs.KernelRecord.EachMember.{find-passes}
+use Rattle.word_store.proofs.Elements.{find-passes}
 use Rattle.kernel_model.proofs.KernelRecord.FollowedBlocks.{IsWithin, found-holding, found-within}
 
 -- ---- a store

@@ -15,15 +15,6 @@ pub all-both : {X : Type 0} (P Q : X → Type 0) (xs : List X) → AllByRecursio
 all-both P Q [] all also = tt
 all-both P Q (x ∷ xs) all also = ((all.0, also.0), all-both P Q xs all.1 also.1)
 
--- what is found passes the test
-pub find-passes : {X : Type 0} (f : X → Bool) (xs : List X) (x : X) → find f xs ≡ Some x → f x ≡ true
-find-passes f [] x e = cc
-find-passes {X} f (y ∷ ys) x e = on (f y) refl e (find-passes f ys x)
-  where
-    on : (b : Bool) → f y ≡ b → cond b (Some y) (find f ys) ≡ Some x → (find f ys ≡ Some x → f x ≡ true) → f x ≡ true
-    on true is e more = (let same : y ≡ x = cc in ap f (sym same) ∙ is)
-    on false is e more = more e
-
 -- The words of each of the linked things are held, apart and in the store.
 pub held-each : {X : Type 0} (address : X → ℕ) (words : X → ℕ → Pairs) (s : List ℕ) (P Q : X → Type 0)
     → ((x : X) (n : ℕ) → Holds s (words x n) → AreApart (words x n) → AreInside s (words x n) → P x → Q x)

@@ -26,7 +26,8 @@ use Rattle.kernel_model.specs.KernelRecord.ValidLists.{AreValid}
 use Rattle.kernel_model.proofs.KernelRecord.AllThings.{all-from_both, and-other}
 use Rattle.kernel_model.proofs.KernelRecord.BlockChanges.{KeepsBlock, KeepsData, blocks-valid}
 use Rattle.kernel_model.proofs.KernelRecord.BlockStarts.{AreData-kept}
-use Rattle.kernel_model.proofs.KernelRecord.EachMember.{all-each, find-passes}
+use Rattle.word_store.proofs.Elements.{find-passes}
+use Rattle.kernel_model.proofs.KernelRecord.EachMember.{all-each}
 use Rattle.kernel_model.proofs.KernelRecord.OwnerCounts.{owned-blocks, owns-without}
 
 -- ---- the blocks

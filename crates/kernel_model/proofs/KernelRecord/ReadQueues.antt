@@ -9,7 +9,8 @@ use Rattle.kernel_lists.specs.PacketQueue.QueueWords.{HeldQueue, QueuedPacket, q
 use Rattle.kernel_model.specs.KernelRecord.Lists.{Lists}
 use Rattle.kernel_model.specs.KernelRecord.ValidBlocks.{AreData}
 use Rattle.kernel_model.specs.KernelRecord.ValidQueues.{MayStand, Place}
-use Rattle.kernel_model.proofs.KernelRecord.EachMember.{all-each, find-passes}
+use Rattle.word_store.proofs.Elements.{find-passes}
+use Rattle.kernel_model.proofs.KernelRecord.EachMember.{all-each}
 
 -- no data of a block are at 0
 pub data-some : (bs : List Block) (p n : ℕ) → AreData bs p n → 0 < p

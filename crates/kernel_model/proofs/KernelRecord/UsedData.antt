@@ -26,7 +26,8 @@ use Rattle.kernel_model.specs.KernelRecord.ValidLists.{AreValid}
 use Rattle.kernel_model.specs.KernelRecord.ValidQueues.{MayStand, Place}
 use Rattle.kernel_model.specs.KernelRecord.ValidQueues.Place.{Pending, Work}
 use Rattle.kernel_model.specs.KernelRecord.ValidTasks.{CoroutinesStand, IsCoroutine}
-use Rattle.kernel_model.proofs.KernelRecord.EachMember.{all-both, all-each, find-passes, linked-each}
+use Rattle.word_store.proofs.Elements.{find-passes}
+use Rattle.kernel_model.proofs.KernelRecord.EachMember.{all-both, all-each, linked-each}
 use Rattle.kernel_model.proofs.KernelRecord.FollowedBlocks.{found-holding}
 use Rattle.kernel_model.proofs.KernelRecord.TaskKind.{frames_of, owners-whole, packets_of}
 use Rattle.kernel_model.proofs.KernelRecord.TaskPlaces.{TaskPlace, last-resident, task-places}

@@ -5,8 +5,7 @@ use Rattle.std.proofs.Common.{ap, refl, subst, sym, ◌∙◌}
 use Rattle.std.proofs.lemmas.List.Folds.{list_any-append}
 use Rattle.word_store.specs.Count.{times}
 use Rattle.kernel_model.specs.KernelRecord.KernelRanges.{Words, meets}
-use Rattle.kernel_model.specs.WordKinds.Searched.{or-false}
-use Rattle.std.proofs.Math.Bool.{or_assoc}
+use Rattle.std.proofs.Math.Bool.{or-false, or_assoc}
 
 -- whether the word is marked; there is no mark behind the last one
 abbrev pub is_marked : List Bool → ℕ → Bool
@@ -32,7 +31,7 @@ abbrev pub MarksAll : List Bool → List ℕ → Type 0
 MarksAll marks known = (a : ℕ) → (is_marked marks a ≡ true) ↔ (0 < times a known)
 
 pub shown-none : (v : List Bool) → AreShown v v []
-shown-none v = record { size = refl; marks = λ a low. or-false (is_marked v a) }
+shown-none v = record { size = refl; marks = λ a low. sym (or-false (is_marked v a)) }
 
 pub shown-both : (u v w : List Bool) (xs ys : List Words) → AreShown u v xs → AreShown v w ys → AreShown u w (xs ++ ys)
 shown-both u v w xs ys one two = record {

@@ -5,7 +5,7 @@ use Rattle.std.specs.List.{list_any}
 use Rattle.std.proofs.lemmas.List.Folds.{list_any-append}
 use Rattle.kernel_model.specs.KernelRecord.KernelRanges.{Words, meets}
 use Rattle.kernel_model.specs.declared.word_kinds.search.Search.{Search}
-use Rattle.std.proofs.Math.Bool.{or_assoc}
+use Rattle.std.proofs.Math.Bool.{or-false, or_assoc}
 
 -- it looks for the same words, and has found one where it had before, or where one of them is in the ranges
 pub record Searched (u v : Search) (ws : List Words) : Type 0 where
@@ -16,14 +16,9 @@ pub record Searched (u v : Search) (ws : List Words) : Type 0 where
   -- where one is in a range, it is found
   pub found : v.found ≡ (u.found || list_any (meets u.from u.to) ws)
 
--- nothing is added by a range that is not there
-pub or-false : (x : Bool) → x ≡ (x || false)
-or-false true = refl
-or-false false = refl
-
 -- before any range it has found what it had found
 pub searched_none : (v : Search) → Searched v v []
-searched_none v = record { from = refl; to = refl; found = or-false v.found }
+searched_none v = record { from = refl; to = refl; found = sym (or-false v.found) }
 
 -- what was shown some ranges, and then others, was shown all of them
 pub searched_both : (u v w : Search) (xs ys : List Words) → Searched u v xs → Searched v w ys → Searched u w (xs ++ ys)

@@ -9,7 +9,7 @@ use Rattle.session_text.specs.SessionForm.{AreBareLines, AreClockLines, AreCodeL
 use Rattle.session_text.specs.Statements.{Statement, File, Task, At, Key, Go, States}
 use Rattle.session_text.specs.declared.sessions.Session.{Session}
 use Rattle.session_text.specs.declared.sessions.SessionLine.{SessionLine}
-use Rattle.session_text.proofs.Parts.{all-append}
+use Rattle.word_store.proofs.Elements.{all-append}
 
 -- the line begins with `GO `
 abbrev pub is_go : List ℕ → Bool

@@ -8,7 +8,7 @@ use Rattle.session_text.specs.SessionForm.{AreBareLines, AreClockLines, AreCodeL
 use Rattle.session_text.specs.Statements.{Statement, File, Task, At, Key, Go}
 use Rattle.session_text.specs.declared.sessions.Session.{Session}
 use Rattle.session_text.specs.declared.sessions.SessionLine.{SessionLine}
-use Rattle.session_text.proofs.Parts.{all-append}
+use Rattle.word_store.proofs.Elements.{all-append}
 
 abbrev pub AreUpTo : ℕ → List SessionLine → Type 0
 AreUpTo most lines = AllByRecursion (λ line. line.line ≤ most) lines

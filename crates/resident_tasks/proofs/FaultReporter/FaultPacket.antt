@@ -4,7 +4,7 @@ use Rattle.std.specs.List.{AllByRecursion, list_any, range_with_len}
 use Rattle.std.proofs.lemmas.Bool.{and_from, cases_eq, eq-eqb, false≢true, false_from_ne_true, ne_eqb}
 use Rattle.std.proofs.lemmas.List.Folds.{list_any-append}
 use Rattle.word_store.specs.Count.{IsApart, times}
-use Rattle.kernel_lists.proofs.LinkedList.AllMembers.{all-append}
+use Rattle.word_store.proofs.Elements.{all-append}
 use Rattle.word_store.proofs.Counts.{hit-other, hit-same, times-within}
 use Rattle.kernel_lists.specs.OwnedWords.Exchange.{Exchange}
 use Rattle.kernel_lists.specs.OwnedWords.Owned.{Holds, Pairs, owners, written}

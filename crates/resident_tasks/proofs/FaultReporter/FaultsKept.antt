@@ -2,8 +2,9 @@
 use Rattle.std.proofs.Common.{◌≡◌, ℕ, ◌+◌, ◌&&◌, ◌||◌, Bool, true, false, not, Err, List, [], ◌∷◌, ◌++◌, map, cond, eqb, leb, ltb, refl, sym, ap, ◌∙◌, subst, arith}
 use Rattle.std.specs.List.{AllByRecursion, list_any}
 use Rattle.std.proofs.lemmas.Bool.{and_from, and_parts, eq-eqb, eqb-true, false≢true, le-leb, lt-ltb, ltb-true, or_left, or_right}
+use Rattle.std.proofs.Math.Bool.{and-false}
 use Rattle.instruction_set.specs.declared.Fault.{Fault}
-use Rattle.kernel_lists.proofs.LinkedList.AllMembers.{all-append}
+use Rattle.word_store.proofs.Elements.{all-append}
 use Rattle.kernel_lists.specs.PacketQueue.QueueWords.{QueuedPacket}
 use Rattle.kernel_model.specs.KernelRecord.Between.{FaultsStand, Tells, has_unreported, is_unreported}
 use Rattle.kernel_model.specs.KernelRecord.Changes.{change_of, queue_of, with_queue, with_tasks, with_work, work_of}
@@ -187,15 +188,11 @@ old-fault t = on (is_unreported t) refl
   where
     on : (b : Bool) → is_unreported t ≡ b → is_unreported (cond b (record t { fault = t.fault + 256 }) t) ≡ false
     on false e = e
-    on true e = ap (λ b. leb 1 (t.fault + 256) && b) (high (ltb (t.fault + 256) 256) refl) ∙ and-no (leb 1 (t.fault + 256))
+    on true e = ap (λ b. leb 1 (t.fault + 256) && b) (high (ltb (t.fault + 256) 256) refl) ∙ and-false (leb 1 (t.fault + 256))
       where
         high : (b : Bool) → ltb (t.fault + 256) 256 ≡ b → b ≡ false
         high true e = absurd (omega (arith, ltb-true (t.fault + 256) 256 e))
         high false e = refl
-
-        and-no : (b : Bool) → (b && false) ≡ false
-        and-no true = refl
-        and-no false = refl
 
 none-left : (ts : List Task) → list_any is_unreported (map reported ts) ≡ false
 none-left [] = refl

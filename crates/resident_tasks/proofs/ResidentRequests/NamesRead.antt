@@ -4,6 +4,7 @@ use Rattle.std.specs.Option.{SomeIff, ok_or}
 use Rattle.std.proofs.lemmas.Bool.{and_parts, le-leb, leb-true}
 use Rattle.std.proofs.lemmas.List.FromFn.{length-map-range_with_len}
 use Rattle.std.proofs.lemmas.List.Sums.{AllPass-from_list_all, list_all-from_AllPass}
+use Rattle.std.proofs.Math.Bool.{and-false}
 use Rattle.ram_disc.specs.Name.{IsName, is_name_byte}
 use Rattle.resident_tasks.specs.ResidentRequests.Buffers.{byte_in, bytes_in, lies_inside}
 use Rattle.resident_tasks.specs.ResidentRequests.Names.{is_name, name_at, string_in}
@@ -28,12 +29,8 @@ module _ (s : List ℕ) (a n : ℕ) (is : n ≡ byte_in s a 0) where
   abbrev named : Bool → Result (List ℕ) ℕ
   named b = cond b (Ok (string_in s a)) (Err 40)
 
-  and-no : (b : Bool) → (b && false) ≡ false
-  and-no true = refl
-  and-no false = refl
-
   unnamed : is_name (string_in s a) ≡ false → Err 40 ≡ name_at s a
-  unnamed e = sym (ap named (ap (λ b. lies_inside s a (byte_in s a 0 + 1) && b) e ∙ and-no (lies_inside s a (byte_in s a 0 + 1))))
+  unnamed e = sym (ap named (ap (λ b. lies_inside s a (byte_in s a 0 + 1) && b) e ∙ and-false (lies_inside s a (byte_in s a 0 + 1))))
 
   -- it is too long
   pub long-name : 12 < n → Err 40 ≡ name_at s a

@@ -10,7 +10,8 @@ use Rattle.std.proofs.lemmas.List.{drop_all, map-append}
 use Rattle.std.proofs.lemmas.Slice.Eq.{bytes_eq-Decides}
 use Rattle.ram_disc.specs.Disc.{AreInOrder, Disc, File, IsDisc, file_named, has_name, is_before}
 use Rattle.ram_disc.specs.DiscCalls.{nth_of}
-use Rattle.ram_disc.proofs.NameOrder.{bytes_eq-other, bytes_eq-self, is_before-differ}
+use Rattle.module_text.proofs.TextReader.EqualTexts.{bytes_eq-self}
+use Rattle.ram_disc.proofs.NameOrder.{bytes_eq-other, is_before-differ}
 use Rattle.saved_text.specs.SavedLines.Canonical.{statement_text}
 use Rattle.saved_text.proofs.SavedLines.LineFields.{Some-same}
 use Rattle.saved_text.specs.SavedLines.Statements.{Bytes, File as FileLine}

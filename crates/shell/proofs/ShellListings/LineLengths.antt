@@ -1,6 +1,5 @@
 -- How long the lines are.
 use Rattle.std.proofs.Common.{◌≡◌, ℕ, ◌+◌, ◌-◌, ◌*◌, ◌^◌, ◌<◌, ◌≤◌, Bool, true, false, cond, not, eqb, List, [], ◌∷◌, ◌++◌, length, map, replicate, codes, arith}
-use Rattle.std.proofs.lemmas.Fmt.{length-decimal-le}
 use Rattle.std.proofs.lemmas.List.{length-append, length-map, length-replicate}
 use Rattle.std.proofs.lemmas.List.Sums.{sum_by-cons}
 use Rattle.std.specs.Fmt.{decimal}
@@ -21,10 +20,7 @@ use Rattle.shell.specs.ShellListings.Columns.{left_in, right_in}
 use Rattle.shell.specs.ShellListings.FileLines.{file_line, file_lines, most_in_file_line, most_in_files, name_and_size}
 use Rattle.shell.specs.ShellListings.NumberLines.{most_in_number_line, number_line}
 use Rattle.shell.specs.ShellListings.TaskLines.{field_name, line_with, mark, most_in_task_line, most_in_tasks, state_text, task_line, task_lines}
-
--- a number of 32 bits has at most 10 digits
-pub few_digits : (n : ℕ) → n < 2 ^ 32 → length (decimal n) ≤ 10
-few_digits n low = length-decimal-le 10 n (omega arith) (omega (arith, low)) (omega (arith, low))
+use Rattle.resident_tasks.proofs.FaultReporter.ReportLines.{few_digits}
 
 -- a line for each of some things
 pub each-short : {X : Type 0} (line : X → List ℕ) (m : ℕ) (xs : List X) → AllByRecursion (λ x. length (line x) ≤ m) xs → length (flat_map line xs) ≤ m * length xs

@@ -4,8 +4,9 @@ use Rattle.std.proofs.Common.{◌≡◌, ℕ, ◌≤◌, List, [], ◌∷◌, �
 use Rattle.std.specs.List.{AllByRecursion, flat_map, list_any}
 use Rattle.std.proofs.lemmas.Bool.{and_parts, eq-eqb, eqb-true, false≢true, ne_eqb, or_left, or_parts, or_right}
 use Rattle.std.proofs.lemmas.List.Folds.{list_any-append}
+use Rattle.std.proofs.Math.Bool.{and-false}
 use Rattle.kernel_lists.specs.LinkedList.Places.{without_first}
-use Rattle.kernel_lists.proofs.LinkedList.AllMembers.{all-append}
+use Rattle.word_store.proofs.Elements.{all-append}
 use Rattle.kernel_lists.specs.PacketQueue.QueueWords.{QueuedPacket}
 use Rattle.ram_disc.specs.Disc.{Disc}
 use Rattle.kernel_model.specs.KernelRecord.Between.{FaultsStand, Tells, has_unreported, is_unreported}
@@ -58,11 +59,7 @@ no-fault : (t : Task) → t.fault ≡ 0 → is_unreported t ≡ false
 no-fault t e = ap (λ n. leb 1 n && ltb n 256) e
 
 no-own : (id : ℕ) (t : Task) → is_unreported t ≡ false → (eqb t.id id && is_guest_id id && is_unreported t) ≡ false
-no-own id t e = ap (λ b. eqb t.id id && is_guest_id id && b) e ∙ and-none (eqb t.id id && is_guest_id id)
-  where
-    and-none : (b : Bool) → (b && false) ≡ false
-    and-none true = refl
-    and-none false = refl
+no-own id t e = ap (λ b. eqb t.id id && is_guest_id id && b) e ∙ and-false (eqb t.id id && is_guest_id id)
 
 faults-new : AllowsNew FaultsStand
 faults-new l t p h =

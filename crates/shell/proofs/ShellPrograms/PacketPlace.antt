@@ -3,7 +3,7 @@ use Rattle.std.proofs.Common.{◌≡◌, ◌⊎◌, ℕ, ◌+◌, ◌-◌, ◌<�
 use Rattle.std.specs.List.{AllByRecursion, range_with_len}
 use Rattle.std.proofs.lemmas.Bool.{cases_lt}
 use Rattle.word_store.specs.Count.{times}
-use Rattle.kernel_lists.proofs.LinkedList.AllMembers.{all-append}
+use Rattle.word_store.proofs.Elements.{all-append}
 use Rattle.word_store.proofs.Counts.{range-high, range-low, times-within}
 use Rattle.kernel_lists.specs.OwnedWords.Owned.{owners}
 use Rattle.kernel_lists.specs.declared.getvec_chain.pieces.Block.{Block}

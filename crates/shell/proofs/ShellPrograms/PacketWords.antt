@@ -29,7 +29,7 @@ use Rattle.kernel_model.specs.KernelRecord.ValidBlocks.{HasBlock, last_module_wo
 use Rattle.kernel_model.specs.KernelRecord.ValidLists.{AreValid}
 use Rattle.kernel_model.specs.KernelRecord.ValidTasks.{CoroutinesStand, IsCoroutine, IsTask, resident_place}
 use Rattle.kernel_model.specs.KernelRecord.Versions.{head_words_of}
-use Rattle.kernel_model.proofs.KernelRecord.EachMember.{find-passes}
+use Rattle.word_store.proofs.Elements.{find-passes}
 use Rattle.kernel_model.proofs.KernelRecord.FollowedBlocks.{IsWithin, found-holding, found-within, starts-low}
 use Rattle.kernel_model.proofs.KernelRecord.OwnerCounts.{owners-residents, packets_count}
 use Rattle.kernel_model.proofs.KernelRecord.QueueCounts.{owners-packet}

@@ -4,7 +4,7 @@ use Rattle.std.specs.List.{AllByRecursion, list_any}
 use Rattle.std.proofs.lemmas.Bool.{leb-false}
 use Rattle.std.proofs.lemmas.List.{append_assoc}
 use Rattle.kernel_lists.specs.LinkedList.Places.{insert_after}
-use Rattle.kernel_lists.proofs.LinkedList.AllMembers.{all-back}
+use Rattle.word_store.proofs.Elements.{all-back}
 use Rattle.kernel_lists.proofs.LinkedList.Places.{IsPlace, place}
 use Rattle.kernel_lists.specs.declared.packet_queue.events.KernelEvent.{KernelEvent}
 use Rattle.tripos_machine.specs.EventHistory.Acceptances.{pair_of}

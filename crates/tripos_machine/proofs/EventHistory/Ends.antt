@@ -3,7 +3,7 @@ use Rattle.std.proofs.Common.{◌≡◌, ℕ, ℤ, ◌+◌, ◌≤◌, ◌||◌,
 use Rattle.std.specs.List.{AllByRecursion, list_any}
 use Rattle.word_store.proofs.Counts.{hit-same}
 use Rattle.kernel_lists.specs.LinkedList.Places.{insert_after, without_first}
-use Rattle.kernel_lists.proofs.LinkedList.AllMembers.{all-append, all-back, all-front}
+use Rattle.word_store.proofs.Elements.{all-append, all-back, all-front}
 use Rattle.kernel_lists.proofs.LinkedList.Places.{IsPlace, place}
 use Rattle.kernel_lists.specs.declared.packet_queue.events.KernelEvent.{KernelEvent}
 use Rattle.kernel_lists.specs.declared.packet_queue.events.KernelEvent.TheVariants.{Accepted, Taken, Dequeued, Runs}

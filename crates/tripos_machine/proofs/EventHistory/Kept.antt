@@ -2,6 +2,7 @@
 -- dequeued. Where those that are taken do not count either, the rest are left.
 use Rattle.std.proofs.Common.{◌≡◌, ℕ, ℤ, ◌+◌, ◌≤◌, ◌&&◌, ◌||◌, Bool, true, false, cond, eqb, List, [], ◌∷◌, ◌++◌, append-nil, drop, filter, map, Option, Some, None, refl, sym, ap, ◌∙◌, subst, arith, eqb-true}
 use Rattle.std.proofs.lemmas.List.{append_assoc}
+use Rattle.std.proofs.Math.Bool.{and-false}
 use Rattle.word_store.proofs.Counts.{hit-same}
 use Rattle.kernel_lists.specs.LinkedList.Places.{without_first}
 use Rattle.kernel_lists.specs.declared.packet_queue.events.KernelEvent.{KernelEvent}
@@ -142,14 +143,10 @@ module _ (t : Bool) (h : Entry → Bool) where
         ap (λ z. cond (t && true) ((p, s) ∷ []) [] ++ kept es z) (ap (λ c. cond c (drop 1 (b r)) (b q)) (ap (same_queue q) is ∙ same-self q) ∙ ap (λ z. drop 1 (b z)) is)
         ∙ kept-taken p s es (b q) (subst (λ z. IsFirst p s (b z)) is may) (once.once q p) ∙ (λ i. kept (Taken (sym is i) p s ∷ es) (b q)) ∙ sym (append-nil (kept (Taken r p s ∷ es) (b q))))
         (λ other.
-        (λ i. cond (no-more t i) ((p, s) ∷ []) [] ++ kept es (after_event (Taken r p s) due b q))
+        (λ i. cond (and-false t i) ((p, s) ∷ []) [] ++ kept es (after_event (Taken r p s) due b q))
         ∙ ap (kept es) (ap (λ c. cond c (drop 1 (b r)) (b q)) (not-same r q other))
         ∙ sym (kept-other p (Taken r p s) es (b q) (take-ends r p s) (elsewhere b once p r q (first-stands p s (b r) may) (not-same r q other)))
         ∙ sym (append-nil (kept (Taken r p s ∷ es) (b q))))
-      where
-        no-more : (c : Bool) → (c && false) ≡ false
-        no-more true = refl
-        no-more false = refl
     stays (Dequeued r p) due es b once may =
         queue-ways (λ c. kept es (cond c (without_first (λ y. eqb p y.packet) (b r)) (b q)) ≡ kept (Dequeued r p ∷ es) (b q) ++ []) q r
         (λ is.

@@ -10,7 +10,7 @@ use Rattle.kernel_lists.specs.PacketQueue.QueueWords.{QueuedPacket}
 use Rattle.kernel_model.specs.KernelRecord.Changes.{work_of}
 use Rattle.kernel_model.specs.KernelRecord.Lists.{has_task}
 use Rattle.kernel_model.specs.KernelRecord.Task.{Task, task_id}
-use Rattle.kernel_model.proofs.KernelRecord.EachMember.{find-passes}
+use Rattle.word_store.proofs.Elements.{find-passes}
 use Rattle.kernel_machine.proofs.KernelSteps.FaultRule.{no-work}
 
 -- ---- the chain as queues see it: a task may stand before all others

@@ -23,7 +23,7 @@ use Rattle.kernel_model.specs.KernelRecord.Task.{Task, task_id}
 use Rattle.kernel_model.specs.KernelRecord.ValidLists.{AreValid}
 use Rattle.kernel_model.specs.KernelRecord.ValidQueues.Place.{Work}
 use Rattle.kernel_model.specs.KernelRecord.Versions.{highest_id_of}
-use Rattle.kernel_model.proofs.KernelRecord.EachMember.{find-passes}
+use Rattle.word_store.proofs.Elements.{find-passes}
 use Rattle.kernel_calls.specs.CallAnswers.Guests.{guest_tests}
 use Rattle.kernel_calls.specs.CallAnswers.Made.{Made, done, unless_refused}
 use Rattle.kernel_calls.specs.CallAnswers.Refusals.{first_refusal}
