@@ -12,7 +12,7 @@ use Rattle.instruction_set.specs.declared.operand_forms.instructions.Instr.{Inst
 use Rattle.assembly.specs.AssemblyText.Places.{first_offset, most_words}
 use Rattle.assembly.specs.ModuleListing.Cover.{Follow, ListedLine, line_at}
 
--- a line with a label stands at the offset
+-- a line with a label is at the offset
 abbrev pub IsLabelled : (ℕ → Bool) → List ListedLine → ℕ → Type 0
 IsLabelled has_label lines a = (list_any (λ line. line.offset == a) lines ≡ true) × (has_label a ≡ true)
 

@@ -1,4 +1,4 @@
--- The listing of code as a text of assembly: labels stand in the place of the addresses.
+-- The listing of code as a text of assembly, with labels in the place of the addresses.
 use Rattle.std.specs.Prelude.{ℕ, Bool, if◌then◌else◌, List, [], ◌∷◌, ◌++◌, Option, Some, Result, Ok, codes, decimal, map, unwrap_or}
 use Rattle.std.specs.List.{join_with_byte}
 use Rattle.module_text.specs.TextReader.Lines.{text_of_lines}

@@ -23,17 +23,17 @@ IsInside n Unset = Unit {0}
 IsInside n Switch = Unit {0}
 IsInside n (Span from to) = (from ≤ to) × (to ≤ n)
 
--- those of all entries do
+-- the values of all entries lie in a line of n bytes
 abbrev pub AreInside : ℕ → List Arg → Type 0
 AreInside n args = (k : ℕ) → IsInside n (slice_index_or args k Unset)
 
--- what stands in the line, as the value of an entry
+-- what is in the line, as the value of an entry
 abbrev pub text_of : List ℕ → Arg → List ℕ
 text_of line Unset = []
 text_of line Switch = []
 text_of line (Span from to) = slice_range line from to
 
--- that of the k-th entry, from 0
+-- what is in the line as the value of the k-th entry, from 0
 abbrev pub text_at : List ℕ → List Arg → ℕ → List ℕ
 text_at line args k = text_of line (slice_index_or args k Unset)
 

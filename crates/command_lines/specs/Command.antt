@@ -41,7 +41,7 @@ priority_in rest =
 abbrev pub flag_at : List Arg → ℕ → ℕ → ℕ
 flag_at args k flag = if is_set_at args k then flag else 0
 
--- those of the switches B, C, D and E, added up
+-- the flags of the switches B, C, D and E that are set, added up
 abbrev pub flags_of : List Arg → ℕ
 flags_of args = flag_at args 1 1 + flag_at args 2 2 + flag_at args 3 4 + flag_at args 4 8
 

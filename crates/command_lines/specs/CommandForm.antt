@@ -31,7 +31,7 @@ pub data Parts : List ℕ → List ℕ → List ℕ → Type 0 where
 
 -- ---- what follows the name of a command
 
--- it is read by this template
+-- the template by which the arguments of each command are read
 abbrev pub template_of : CommandName → List ℕ
 template_of TypeFile = codes "FILE/A"
 template_of ListFiles = codes ""
@@ -46,7 +46,7 @@ template_of SetFlags = codes "TASK/A,B/S,C/S,D/S,E/S"
 template_of RunProgram = codes "PROGRAM/A,PRI/K"
 template_of FinishMachine = codes ""
 
--- these of its arguments have to be numbers
+-- the arguments of a command that have to be numbers
 abbrev pub numbers_in : CommandName → List ℕ → List Arg → List (List ℕ)
 numbers_in HoldTask rest args = text_at rest args 0 ∷ []
 numbers_in ReleaseTask rest args = text_at rest args 0 ∷ []
@@ -55,7 +55,7 @@ numbers_in SetFlags rest args = text_at rest args 0 ∷ []
 numbers_in RunProgram rest args = if is_set_at args 1 then text_at rest args 1 ∷ [] else []
 numbers_in _ rest args = []
 
--- and these have to be names
+-- the arguments of a command that have to be names of files
 abbrev pub names_in : CommandName → List ℕ → List Arg → List (List ℕ)
 names_in TypeFile rest args = text_at rest args 0 ∷ []
 names_in DeleteFile rest args = text_at rest args 0 ∷ []

@@ -10,6 +10,6 @@ after_spaces line = drop (position_or_len (λ c. not (c == 32)) line) line
 abbrev pub first_word : List ℕ → List ℕ
 first_word line = before_first (λ c. c == 32) (after_spaces line)
 
--- what stands behind it
+-- what comes after it
 abbrev pub rest_of : List ℕ → List ℕ
 rest_of line = drop (position_or_len (λ c. c == 32) (after_spaces line)) (after_spaces line)

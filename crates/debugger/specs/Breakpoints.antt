@@ -2,7 +2,7 @@
 use Rattle.std.specs.Prelude.{ℕ, ◌==◌, ◌&&◌, Bool, not, if◌then◌else◌, List, [], ◌∷◌, ◌++◌, filter, length, nat_le}
 use Rattle.instruction_set.specs.Breakpoints.{has_breakpoint}
 
--- so many at most
+-- the most breakpoints that there can be at one time
 abbrev pub most_breakpoints : ℕ
 most_breakpoints = 16
 

@@ -49,7 +49,7 @@ steps_to stops zero s = zero
 steps_to stops (suc n) s =
     if is_end stops (step s).state then 1 else suc (steps_to stops n (step s).state)
 
--- the console bytes of so many steps, and then where the machine stands
+-- the console bytes of so many steps, and then where the machine is
 abbrev pub steps_text : Limits → ℕ → State → List ℕ
 steps_text c n s = (run n s).bytes ++ place_text c.first (run n s).state
 

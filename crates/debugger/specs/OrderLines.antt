@@ -11,7 +11,7 @@ abbrev pub bad_or : Option BadLine → Result Order BadLine → Option BadLine
 bad_or others (Ok order) = others
 bad_or others (Err line) = Some line
 
--- of these lines, of which the first is line n
+-- the first line that asks for nothing, of these lines from line n on
 abbrev pub first_bad : ℕ → List (List ℕ) → Option BadLine
 first_bad n [] = None
 first_bad n (line ∷ lines) = bad_or (first_bad (n + 1) lines) (order_of n line)
@@ -27,7 +27,7 @@ is_back _ = false
 abbrev pub goes_back : List (List ℕ) → Bool
 goes_back lines = list_any (λ line. is_back (order_of 0 line)) lines
 
--- it asks for steps to be taken
+-- whether an order asks that steps are taken
 abbrev pub takes_steps : Order → Bool
 takes_steps (Step n) = true
 takes_steps Continue = true

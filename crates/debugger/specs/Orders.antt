@@ -64,11 +64,11 @@ is_in_range (Instructions a n) = is_span a n
 abbrev pub bad : ℕ → ℕ → BadLine
 bad line code = record { line = line; code = code }
 
--- a number of line n that is there
+-- a number that line n has to have, where it is there (code 1)
 abbrev pub given : {X : Type 0} → ℕ → Option X → Result X BadLine
 given n value = ok_or value (bad n 1)
 
--- and is in its range
+-- a number of line n, where it is in its range (code 2)
 abbrev pub at_most : ℕ → ℕ → ℕ → Result ℕ BadLine
 at_most most n value = if nat_le value most then Ok value else Err (bad n 2)
 

@@ -21,12 +21,12 @@ pub record IsWithin (c : Limits) (s : State) : Type 0 where
   -- which are steps that a machine may take
   pub most : c.last ≤ most_steps
 
--- what was told was done, or the sink failed, behind some steps, at most those that were left
+-- what was told was done, or the sink failed, after some steps, at most those that were left
 abbrev pub EndsTold : {T E : Type 0} → Limits → Debugging → Told → State → List ℕ → Result T E → Type 0
 EndsTold c d told t stops (Ok x) = (t ≡ told.after.state) × (stops ≡ told.after.stops)
 EndsTold c d told t stops (Err e) = HasDebugged (steps_left c d.state) d.state t
 
--- the same where a history is kept: the sink failed behind some steps, or when some had been undone
+-- the same where a history is kept: the sink failed after some steps, or when some had been undone
 abbrev pub EndsToldBack : {T E : Type 0} → Limits → Debugging → Told → State → List ℕ → List State → Result T E → Type 0
 EndsToldBack c d told t stops past (Ok x) = (t ≡ told.after.state) × (stops ≡ told.after.stops) × (Some past ≡ told.after.past)
 EndsToldBack c d told t stops past (Err e) = HasDebugged (steps_left c d.state) d.state t ⊎ ((n : ℕ) × (t ≡ state_back n (past_of d) d.state))

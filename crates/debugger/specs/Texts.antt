@@ -18,13 +18,13 @@ use Rattle.tripos_machine.specs.State.{State, regs_of, running_of, steps_of, sto
 use Rattle.tripos_machine.specs.State.State.{Bare, Full}
 use Rattle.debugger.specs.Views.{device_queue, task_queue}
 
--- ---- where a machine stands
+-- ---- where a machine is
 
 -- the steps since a moment, PC, and the task that runs
 abbrev pub at_line : ℕ → ℕ → ℕ → List ℕ
 at_line steps pc task = joined (codes "\nat " ∷ decimal steps ∷ codes " PC " ∷ decimal pc ∷ codes " task " ∷ decimal task ∷ codes "\n" ∷ [])
 
--- of a machine that had taken so many steps at that moment
+-- where a machine is, which had taken `first` steps when the debugger began, or that it has stopped
 abbrev pub place_text : ℕ → State → List ℕ
 place_text first s =
     if is_some (stop_of s) then codes "\nstopped\n" else at_line (steps_of s - first) (regs_of s).pc (running_of s)
@@ -46,7 +46,7 @@ abbrev pub word_lines : ℕ → List ℕ → List ℕ
 word_lines a [] = []
 word_lines a (w ∷ ws) = word_line a w ++ word_lines (a + 1) ws
 
--- so many words of these, from an address on
+-- the lines of `count` words of a store, from an address on
 abbrev pub words_text : ℕ → ℕ → List ℕ → List ℕ
 words_text from count words = word_lines from (take count (drop from words))
 

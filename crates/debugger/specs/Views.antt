@@ -37,7 +37,7 @@ device_queue n l =
     if n == 3 then Some l.output else
     None
 
--- the queue stands in the store with these packets, or there is none
+-- the queue is in the store with these packets, or there is none
 abbrev pub Leads : List ℕ → Option Queue → Option (List QueuedPacket) → Type 0
 Leads s None None = Unit {0}
 Leads s (Some queue) (Some ps) = HasQueue s (head_of queue) × (packets_at s (head_of queue) ≡ ps)

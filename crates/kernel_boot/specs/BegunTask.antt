@@ -6,7 +6,7 @@ use Rattle.kernel_model.specs.KernelRecord.Lists.{Lists}
 use Rattle.kernel_model.specs.KernelRecord.Task.{Task, globals_of, stack_of}
 use Rattle.kernel_model.specs.KernelRecord.ValidTasks.{interrupted}
 
--- its function is the one that its global 1 names, and it runs on its own stack and with its own globals
+-- the registers with which a task begins at its function: that of its global 1, on its own stack and with its own globals
 abbrev pub begin_regs : ℕ → List ℕ → Task → Regs
 begin_regs version words t = record {
   a = 0;
@@ -17,7 +17,7 @@ begin_regs version words t = record {
   pc = slice_index words (globals_of version t + 1);
 }
 
--- it is as if interrupted before the first instruction
+-- a task that is to begin at its function: as if it was interrupted before the first instruction
 abbrev pub begun : ℕ → List ℕ → Task → Task
 begun version words t = record t { field = interrupted; saved = begin_regs version words t }
 

@@ -24,7 +24,7 @@ use Rattle.kernel_boot.specs.declared.refusals.BootRefusal.{BootRefusal}
 
 -- ---- call after call
 
--- with its answer a call is followed by more
+-- what follows a call that was accepted; after one that was refused nothing does
 abbrev pub on_answer : {A : Type 0} → Result ℕ ℕ → Standing → (ℕ → Standing → Result A ℕ) → Result A ℕ
 on_answer (Ok n) k next = next n k
 on_answer (Err code) k next = Err code
@@ -57,7 +57,7 @@ load_names d (name ∷ names) modules k =
 
 -- ---- a task
 
--- it begins at its function
+-- the task with the number is to begin at its function
 abbrev pub begin_it : ℕ → Standing → Result Standing ℕ
 begin_it id k = Ok (left_with k.words (with_begun k.words id k.lists) [])
 

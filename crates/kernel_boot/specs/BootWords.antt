@@ -9,7 +9,7 @@ use Rattle.kernel_boot.specs.ResidentKernel.{resident_block_size}
 abbrev pub root_pairs : ℕ → ℕ → ℕ → Pairs
 root_pairs n version period = (120, highest_id_of version) ∷ (111, version) ∷ (110, period) ∷ (109, n) ∷ (103, 200) ∷ (100, 120) ∷ []
 
--- the residents' block, of that size, and the free block behind it
+-- the residents' block, of that size, and the free block after it
 abbrev pub block_pairs : ℕ → ℕ → Pairs
 block_pairs n block = (200 + block, n - 202 - block + 1) ∷ (200, block) ∷ (112, 201) ∷ []
 

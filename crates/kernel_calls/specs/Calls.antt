@@ -67,11 +67,11 @@ answered r (Err code) = record r { a = 0; b = code }
 
 -- ---- the kinds of calls
 
--- it ends so, and nothing but these registers has changed
+-- a call ends so, and nothing but these registers has changed
 abbrev pub ended_with : CallOutcome → Lists → Regs → Called
 ended_with outcome l r = record { lists = l; plain = []; regs = r; bytes = []; events = []; outcome = outcome }
 
--- it answers, and the caller goes on
+-- a call gives its answer in the registers, and the caller goes on
 abbrev pub of_made : Regs → Made → Called
 of_made r m = record { lists = m.lists; plain = m.plain; regs = answered r m.answer; bytes = []; events = m.events; outcome = Done }
 
@@ -124,7 +124,7 @@ made s l r (Wrch ch) = of_byte (ch % 256) (ended_with Done l (answered r (Ok ch)
 made s l r (MulDiv a b c) = ended_with Done l (divided r (mul_div a b c))
 made s l r (AddModule id m) = of_made r (add_module s l id m)
 
--- it is made past the SYS; where there is no such call, or an argument is outside the store, nothing changes
+-- A call is made with PC past its SYS. Where there is no such call, or an argument is outside the store, nothing changes.
 abbrev pub made_if_read : List ℕ → Lists → Regs → Result KernelCall CallOutcome → Called
 made_if_read s l r (Ok call) = made s l (past_call r) call
 made_if_read s l r (Err outcome) = ended_with outcome l r

@@ -5,7 +5,7 @@ use Rattle.kernel_lists.specs.PacketQueue.Queue.{HasQueue, queue_at}
 use Rattle.kernel_model.specs.KernelRecord.Recovered.{lists_in}
 use Rattle.kernel_model.specs.KernelRecord.ValidBlocks.{AreData}
 
--- The queue at a head stands, and the words of each packet are data of one used block.
+-- There is a queue at a head, and the words of each packet are data of one used block.
 pub record IsClaimedQueue (s : List ℕ) (head : ℕ) : Type 0 where
   -- the queue
   pub queue : HasQueue s head

@@ -9,7 +9,7 @@ use Rattle.kernel_model.specs.KernelRecord.ValidTasks.{TasksStand}
 use Rattle.kernel_model.specs.KernelRecord.Versions.{highest_id_of}
 use Rattle.kernel_check.specs.ListPasses.ClaimedStore.{IsClaimed}
 
--- All words were claimed, the tasks stand, and the table leads to each of them.
+-- All words were claimed, the rules of tasks hold, and the table leads to each of them.
 pub record AreTasksKnown (s : List ℕ) : Type 0 where
   -- the words
   pub claimed : IsClaimed s

@@ -11,6 +11,6 @@ abbrev pub printed : List ℕ → List QueuedPacket → List ℕ
 printed words [] = []
 printed words (p ∷ ps) = slice_index words (p.address + FIRST) % 256 ∷ []
 
--- and the packet is returned
+-- the first packet at the output is returned with the results 0 and 0
 abbrev pub finished : Lists → Served
 finished l = first_returned Output 0 l.output l

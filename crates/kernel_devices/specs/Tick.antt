@@ -31,7 +31,7 @@ with_returned (q ∷ qs) l = with_returned qs (with_work_for q.sender (returned_
 abbrev pub events_of_return : List QueuedPacket → List KernelEvent
 events_of_return qs = flat_map (return_events devices.Clock) qs
 
--- those that are due are returned, and the others stay
+-- the packets that are due at this tick are returned, and the others stay at the clock
 abbrev pub due_returned : ℕ → Lists → Served
 due_returned now l = record {
   lists = with_returned (due_packets now l.clock) (with_queue Clock (later_packets now l.clock) l);

@@ -22,12 +22,12 @@ BootsRing (Ok ring) booted = booted ≡ Ok ring
 BootsRing (Err (Line line code)) booted = booted ≡ Err (refusal line code)
 BootsRing (Err WantMemory) booted = Unit {0}
 
--- behind so many lines, the number of an end's line is one of 32 bits
+-- after so many lines, the number of an end's line is one of 32 bits
 abbrev pub FitsBehind : ℕ → BootEnd → Type 0
 FitsBehind before (Line line code) = before + line < 2 ^ 32
 FitsBehind before WantMemory = Unit {0}
 
--- the end of a session that stands behind so many lines
+-- the end of a session that comes after so many lines
 abbrev pub end_behind : ℕ → BootEnd → BootEnd
 end_behind before (Line line code) = Line (before + line) code
 end_behind before WantMemory = WantMemory

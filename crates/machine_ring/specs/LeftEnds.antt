@@ -1,4 +1,4 @@
--- The left machine as the code has it: its bytes that wait are those that are held, and then those of its output behind the ones taken.
+-- The left machine as the code has it: its bytes that wait are those that are held, and then those of its output after the ones taken.
 use Rattle.std.specs.Prelude.{◌≡◌, ◌≤◌, ◌++◌, drop, length}
 use Rattle.machine_ring.specs.Rings.{Left}
 use Rattle.machine_ring.specs.declared.left.LeftEnd.TheInside.{Inside}

@@ -11,7 +11,7 @@ pub record Link : Type 0 where
   pub terms : Terms
   -- the end that sends
   pub sender : Sender
-  -- the data in flight, each byte behind its number, the oldest first
+  -- the data in flight, each byte after its number, the oldest first
   pub packets : List (ℕ × ℕ)
   -- how many bytes the other end took
   pub received : ℕ
@@ -30,7 +30,7 @@ letter_after rounds letters = slice_index letters (rounds % length letters)
 
 -- ---- the turn of the sender
 
--- with the first byte that waits
+-- the link after a turn of the sender, where this byte waits first, if one waits
 abbrev pub after_turn : Option ℕ → Link → Link
 after_turn first k = record k {
   sender = sender_after_turn k.sender first k.terms.wait;
@@ -104,7 +104,7 @@ carried first room k = (let left = after_count (after_data room (after_turn firs
 abbrev pub carried_byte : Option ℕ → Bool → Link → Option ℕ
 carried_byte first room k = byte_taken k.received room (coming_data (after_turn first k))
 
--- the same, as a list
+-- the byte that is taken, if one is, as a list
 abbrev pub listed : Option ℕ → List ℕ
 listed None = []
 listed (Some byte) = byte ∷ []

@@ -21,7 +21,7 @@ pub record Ring : Type 0 where
   -- the machine at which these bytes are typed
   pub right : State
 
--- these two machines, and this between them
+-- the ring of these two machines, and of what is between them
 abbrev pub ring_with : Left → Link → State → Ring
 ring_with left link right = record { left = left; link = link; right = right }
 

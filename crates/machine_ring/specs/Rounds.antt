@@ -14,7 +14,7 @@ can_step most s = is_none (stop_of s) && nat_lt (steps_of s) most
 
 -- ---- the left machine
 
--- it takes a step where at most so many bytes wait
+-- whether the left machine takes a step in this round: it can, and at most so many bytes wait
 abbrev pub left_steps : ℕ → Left → Bool
 left_steps most x = nat_le (length x.waiting) MOST_WAITING && can_step most x.state
 
@@ -46,7 +46,7 @@ abbrev pub with_typing : Option ℕ → State → State
 with_typing None s = s
 with_typing (Some byte) s = typed byte s
 
--- it takes a step where it can
+-- the right machine after its part of the round: it takes a step where it can
 abbrev pub right_after : ℕ → State → State
 right_after most s = if can_step most s then (step s).state else s
 
@@ -79,7 +79,7 @@ first_of r = slice_get (stepped r).waiting 0
 abbrev pub byte_in : Ring → Option ℕ
 byte_in r = carried_byte (first_of r) (has_room r.right) r.link
 
--- the right machine before its step
+-- the right machine before its step, once a byte that has come is typed
 abbrev pub right_before : Ring → State
 right_before r = with_typing (byte_in r) r.right
 

@@ -23,11 +23,11 @@ IsPrintable m = AllByRecursion IsPrintableHunk m.hunks
 abbrev pub HasWords : Module → Type 0
 HasWords m = AllByRecursion (λ h. AllByRecursion (λ w. w < 2 ^ 32) h.words) m.hunks
 
--- what stands after word i of n: LF after each eighth word and after the last one, else a space
+-- what comes after word i of n: LF after each eighth word and after the last one, else a space
 abbrev pub after_word : ℕ → ℕ → List ℕ
 after_word i n = if (i % 8 == 7) || (i + 1 == n) then codes "\n" else codes " "
 
--- word i of n, as eight hex digits, and what stands after it
+-- word i of n, as eight hex digits, and what comes after it
 abbrev pub word_text : ℕ → ℕ → ℕ → List ℕ
 word_text i n w = joined (hex_digits_of w ∷ after_word i n ∷ [])
 

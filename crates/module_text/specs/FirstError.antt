@@ -69,19 +69,19 @@ IsBegun words = IsWhole words ⊎ (IsTypeDue words ⊎ IsInsideItem words)
 abbrev pub HasWord : List ℕ → Type 0
 HasWord bytes = (w : ℕ) × IsWord bytes w
 
--- it is no word
+-- the token is no word
 abbrev pub IsNoWord : List ℕ → List ℕ → Type 0
 IsNoWord words bytes = ¬ HasWord bytes
 
--- it is a word, and should be a type
+-- the token is a word, and should be a type
 abbrev pub IsNoType : List ℕ → List ℕ → Type 0
 IsNoType words bytes = HasWord bytes × IsTypeDue words
 
--- it is a word, and should be an offset
+-- the token is a word, and should be an offset
 abbrev pub IsNoOffset : List ℕ → List ℕ → Type 0
 IsNoOffset words bytes = HasWord bytes × IsOffsetDue words
 
--- it is a word after a whole module
+-- the token is a word after a whole module
 abbrev pub IsBeyond : List ℕ → List ℕ → Type 0
 IsBeyond words bytes = HasWord bytes × IsWhole words
 

@@ -4,14 +4,14 @@ use Rattle.module_text.specs.ModuleForm.{end_word, hunk_type, relocation_type}
 use Rattle.module_text.specs.declared.grammar.Expects.{Expects}
 use Rattle.module_text.specs.declared.grammar.Expects.TheVariants.{FirstType, NextType, Length, Word, Count, Offset, Nothing}
 
--- the type of the first item is a hunk's, or the end word stands there
+-- the type of the first item is a hunk's, or the end word is there
 abbrev pub first_type : ℕ → Result Expects ℕ
 first_type word =
     if word == hunk_type then Ok Length else
     if word == end_word then Ok Nothing else
     Err 3
 
--- after another item a relocation list may stand too
+-- after another item a relocation list may come too
 abbrev pub type_after : ℕ → ℕ → Result Expects ℕ
 type_after length word = if word == relocation_type then Ok (Count length) else first_type word
 
@@ -23,7 +23,7 @@ words_or_type left length = if left == 0 then NextType length else Word (left - 
 abbrev pub offsets_or_type : ℕ → ℕ → Expects
 offsets_or_type left length = if left == 0 then NextType length else Offset (left - 1) length
 
--- what is expected after a word, or the code of a word that cannot stand there
+-- what is expected after a word, or the code of a word that cannot be there
 abbrev pub follow : Expects → ℕ → Result Expects ℕ
 follow FirstType word = first_type word
 follow (NextType length) word = type_after length word

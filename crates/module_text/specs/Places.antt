@@ -1,4 +1,4 @@
--- Where the tokens of a text stand.
+-- Where the tokens of a text are.
 use Rattle.std.specs.Prelude.{ℕ, ◌+◌, not, if◌then◌else◌, List, length, drop, Option, Some, None, nat_lt, option_and_then, slice_range}
 use Rattle.std.specs.List.{prefix_len}
 use Rattle.std.specs.Option.{option_map}
@@ -7,7 +7,7 @@ use Rattle.module_text.specs.Words.{word_of}
 use Rattle.module_text.specs.declared.tokens.NextWord.{NextWord}
 use Rattle.module_text.specs.declared.tokens.Span.{Span}
 
--- the place after the blanks that stand from a place on
+-- the place after the blanks that begin at a place
 abbrev pub token_start : List ℕ → ℕ → ℕ
 token_start text from = from + prefix_len is_blank (drop from text)
 

@@ -35,6 +35,6 @@ abbrev pub check : Result Module Refusal → Result Shape ℕ
 check (Ok m) = Ok (shape_of m.hunks)
 check (Err e) = Err e.code
 
--- the same of a text
+-- the shape of the module that a text is, or the code with which it is refused
 abbrev pub check_of : List ℕ → Result Shape ℕ
 check_of text = check (module_of text)

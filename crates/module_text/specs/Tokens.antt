@@ -26,7 +26,7 @@ abbrev pub onto_first_token : ℕ → ℕ → List Token → List Token
 onto_first_token place c [] = token place c ∷ []
 onto_first_token place c (t ∷ ts) = record { place = place; bytes = c ∷ t.bytes } ∷ ts
 
--- the tokens of bytes, the first of which stands at this place: what blanks separate
+-- the tokens of bytes, the first of which is at this place: what blanks separate
 abbrev pub tokens_from : ℕ → List ℕ → List Token
 tokens_from place [] = []
 tokens_from place (c ∷ cs) =

@@ -5,7 +5,7 @@ use Rattle.word_store.specs.Count.{times}
 use Rattle.ram_disc.specs.Disc.{most_files, most_sectors}
 use Rattle.ram_disc.specs.declared.sectors.Chain.{Chain}
 
--- so many sectors, from the first one on
+-- so many sectors along the links, from the first one on
 unfoldable pub chain_from : List ℕ → ℕ → ℕ → List ℕ
 chain_from links first zero = []
 chain_from links first (suc n) = first ∷ chain_from links (slice_index links first) n
@@ -18,7 +18,7 @@ chain_of links c = chain_from links c.first c.length
 abbrev pub no_sector : Chain
 no_sector = record { first = 0; last = 0; length = 0 }
 
--- the chain, with a sector behind its last one
+-- the chain, with a sector after its last one
 abbrev pub with_last : Chain → ℕ → Chain
 with_last c sector = record { first = if c.length == 0 then sector else c.first; last = sector; length = c.length + 1 }
 
@@ -30,7 +30,7 @@ sector_before c sector = if c.length == 0 then sector else c.last
 abbrev pub chains_of : List ℕ → List Chain → List (List ℕ)
 chains_of links cs = map (chain_of links) cs
 
--- how often the sector stands in the chains
+-- how often the sector is in the chains
 abbrev pub times_in : ℕ → List (List ℕ) → ℕ
 times_in s chains = sum_by (times s) chains
 
@@ -41,11 +41,11 @@ pub record Chains : Type 0 where
   -- how many sectors are in no chain
   pub left : ℕ
 
--- no sector stands twice in the chains, each is one of the disc's, and with those that are left they are all
+-- no sector is twice in the chains, each is one of the disc's, and with those that are left they are all
 pub record AreApart (c : Chains) : Type 0 where
-  -- no sector stands twice
+  -- no sector is there twice
   pub once : (s : ℕ) → times_in s c.chains ≤ 1
-  -- a sector that stands in a chain is one of the disc's
+  -- a sector that is in a chain is one of the disc's
   pub below : (s : ℕ) → 0 < times_in s c.chains → s < most_sectors
   -- the sectors in chains and those that are left are all
   pub all : sum_by length c.chains + c.left ≡ most_sectors
@@ -62,7 +62,7 @@ pub record AreChained (links : List ℕ) (cs : List Chain) (free left : ℕ) : T
   pub size : length links ≡ most_sectors
   -- a sector is in one chain at most, the free one among them, and there once
   pub once : (s : ℕ) → times_in s (chains_of links cs) + times s (chain_from links free left) ≤ 1
-  -- what stands in a chain is a sector of the disc
+  -- what is in a chain is a sector of the disc
   pub below : (s : ℕ) → 0 < times_in s (chains_of links cs) + times s (chain_from links free left) → s < most_sectors
   -- the last sector of each chain is the one that is told
   pub ends : All (EndsAtLast links) cs

@@ -1,10 +1,10 @@
--- The bytes of slots: what stands in the sectors of their chains.
+-- The bytes of slots: what is in the sectors of their chains.
 use Rattle.std.specs.Prelude.{ℕ, ◌≡◌, ◌+◌, ◌*◌, ◌/◌, ◌%◌, ◌<◌, ◌≢◌, List, [], ◌++◌, drop, length, map, slice_index, slice_index_or, slice_set, take}
 use Rattle.std.specs.List.{range_with_len}
 use Rattle.ram_disc.specs.Chain.{AreApart, Chains}
 use Rattle.ram_disc.specs.Disc.{most_files, most_sectors, sectors_of}
 
--- where byte p of a chain stands among the bytes of all sectors
+-- where byte p of a chain is among the bytes of all sectors
 abbrev pub place_in : List ℕ → ℕ → ℕ
 place_in chain p = 512 * slice_index chain (p / 512) + p % 512
 
@@ -48,9 +48,9 @@ bytes_at a slot = slice_index_or a.bytes slot []
 abbrev pub chain_at : Area → ℕ → List ℕ
 chain_at a slot = slice_index_or a.chains slot []
 
--- Bytes come behind those of a slot. The other slots stay as they are.
+-- Bytes come after those of a slot. The other slots stay as they are.
 pub record Adds (old new : Area) (slot : ℕ) (more : List ℕ) : Type 0 where
-  -- these bytes stand behind those of the slot
+  -- these bytes come after those of the slot
   pub bytes : new.bytes ≡ slice_set old.bytes slot (bytes_at old slot ++ more)
   -- the other slots have the same sectors
   pub others : (j : ℕ) → j ≢ slot → chain_at new j ≡ chain_at old j

@@ -54,7 +54,7 @@ sectors_of n = (n + 511) / 512
 abbrev pub sectors_taken : List File → ℕ
 sectors_taken files = sum_by (λ f. sectors_of (length f.bytes)) files
 
--- the one name stands before the other in byte order
+-- the one name comes before the other in byte order
 abbrev pub is_before : List ℕ → List ℕ → Bool
 is_before a b = is_lt (slice_cmp nat_cmp a b)
 
@@ -83,7 +83,7 @@ abbrev pub is_on : List ℕ → Option Stream → Bool
 is_on name None = false
 is_on name (Some s) = bytes_eq s.name name
 
--- it writes that file
+-- whether a stream writes the file of this name
 abbrev pub is_writer_of : List ℕ → Option Stream → Bool
 is_writer_of name None = false
 is_writer_of name (Some s) = bytes_eq s.name name && s.writes
@@ -100,19 +100,19 @@ is_written d name = list_any (is_writer_of name) d.streams
 abbrev pub empty_disc : Disc
 empty_disc = record { files = []; streams = replicate most_streams None }
 
--- each name stands before all names after it
+-- each name comes before all names after it
 abbrev pub AreInOrder : List (List ℕ) → Type 0
 AreInOrder [] = Unit {0}
 AreInOrder (name ∷ names) = AllByRecursion (λ other. is_before name other ≡ true) names × AreInOrder names
 
--- Stream k stands on a file of the disc: a reader at most at its end, a writer at its end and with no other stream on
+-- Stream k is open on a file of the disc: a reader at most at its end, a writer at its end and with no other stream on
 -- the file. The shell's stream reads.
 pub record StandsOn (d : Disc) (k : ℕ) (s : Stream) : Type 0 where
   -- its file is on the disc
   pub is_there : has_file d s.name ≡ true
-  -- it stands at most at the file's end
+  -- it is at most at the file's end
   pub within : s.position ≤ length (bytes_of d s.name)
-  -- one that writes stands at the end
+  -- one that writes is at the end
   pub at_end : s.writes ≡ true → s.position ≡ length (bytes_of d s.name)
   -- one that writes is the only stream on its file
   pub alone : s.writes ≡ true → (j : ℕ) (other : Stream) → stream_at d j ≡ Some other → other.name ≡ s.name → j ≡ k
@@ -131,5 +131,5 @@ pub record IsDisc (d : Disc) : Type 0 where
   pub room : sectors_taken d.files ≤ most_sectors
   -- there are as many streams as there have to be
   pub numbers : length d.streams ≡ most_streams
-  -- each open stream stands on its file
+  -- each open stream is on its file
   pub stand : (k : ℕ) (s : Stream) → stream_at d k ≡ Some s → StandsOn d k s

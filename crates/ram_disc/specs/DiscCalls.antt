@@ -51,7 +51,7 @@ writer name place = record { name = name; position = place; writes = true }
 abbrev pub handler_streams : Disc → List (Option Stream)
 handler_streams d = take (shell_stream - 1) d.streams
 
--- one of them is free
+-- whether a stream is free
 abbrev pub has_free_stream : Disc → Bool
 has_free_stream d = is_some (position is_none (handler_streams d))
 
@@ -110,7 +110,7 @@ after_read_on d k count =
     unless_refused d ((is_reader (stream_at d k), NOT_OPEN) ∷ [])
     (length (bytes_read d k count)) (with_stream d k (moved_on (length (bytes_read d k count)) (stream_at d k)))
 
--- the disc, with these bytes behind those of the file that an open stream is on
+-- the disc, with these bytes after those of the file that an open stream is on
 abbrev pub with_more : Disc → Option Stream → List ℕ → Disc
 with_more d None bytes = d
 with_more d (Some s) bytes = with_bytes d s.name (bytes_of d s.name ++ bytes)

@@ -1,5 +1,5 @@
--- The slots of a disc. A slot that is used has the name and the bytes of a file; the used ones stand in byte order of
--- their names. A stream stands on a slot.
+-- The slots of a disc. A slot that is used has the name and the bytes of a file; the used ones are in byte order of
+-- their names. A stream is open on a slot.
 use Rattle.std.specs.Prelude.{ℕ, ◌≡◌, ◌+◌, ◌-◌, ◌/◌, ◌<◌, ◌≤◌, ◌==◌, ◌&&◌, if◌then◌else◌, Bool, true, false, Option, Some, None, List, [], length, map, slice_index, slice_index_or}
 use Rattle.word_store.specs.Count.{times}
 use Rattle.ram_disc.specs.Contents.{Area, bytes_at, chain_at}
@@ -32,12 +32,12 @@ streams_in names places = map (stream_in names) places
 abbrev pub disc_in : List (List ℕ) → List (List ℕ) → List ℕ → List (Option Place) → Disc
 disc_in names bytes used places = record { files = files_in names bytes used; streams = streams_in names places }
 
--- a stream stands on the slot
+-- a stream is open on the slot
 abbrev pub stands_on : ℕ → Option Place → Bool
 stands_on slot None = false
 stands_on slot (Some p) = p.slot == slot
 
--- it writes there
+-- whether a stream writes on the slot
 abbrev pub writes_on : ℕ → Option Place → Bool
 writes_on slot None = false
 writes_on slot (Some p) = (p.slot == slot) && p.writes
@@ -53,20 +53,20 @@ pub record IsAt (names : List (List ℕ)) (used : List ℕ) (name : List ℕ) (i
   -- the slot there has the name
   pub is : name_in names (slice_index used i) ≡ name
 
--- the name is that of no used slot, and this is its place: those before stand before it, and it stands before the others
+-- the name is that of no used slot, and this is its place: those before come before it, and it comes before the others
 pub record HasPlace (names : List (List ℕ)) (used : List ℕ) (name : List ℕ) (i : ℕ) : Type 0 where
-  -- it is a place, or the one behind the last
+  -- it is a place, or the one after the last
   pub within : i ≤ length used
   -- the names before it come before this one
   pub before : (k : ℕ) → k < i → is_before (name_in names (slice_index used k)) name ≡ true
   -- this one comes before those from there on
   pub after : (k : ℕ) → i ≤ k → k < length used → is_before name (name_in names (slice_index used k)) ≡ true
 
--- each slot is used or not, and the used ones stand in the order of their names
+-- each slot is used or not, and the used ones are in the order of their names
 pub record AreSlots (names : List (List ℕ)) (used unused : List ℕ) : Type 0 where
-  -- a slot stands once, among the used ones or among the others
+  -- a slot is there once, among the used ones or among the others
   pub once : (s : ℕ) → times s used + times s unused ≤ 1
-  -- what stands there is a slot
+  -- what is in those lists is a slot
   pub below : (s : ℕ) → 0 < times s used + times s unused → s < most_files
   -- the used ones and the others are all
   pub all : length used + length unused ≡ most_files
@@ -86,14 +86,14 @@ pub record AreFilled (names : List (List ℕ)) (a : Area) (used unused : List �
   -- the sectors that are left and those that the files take are all
   pub room : a.left + sectors_taken (files_in names a.bytes used) ≡ most_sectors
 
--- Stream k, counted from 0, stands on a used slot: a reader at most at its end, a writer at its end and with no other
+-- Stream k, counted from 0, is open on a used slot: a reader at most at its end, a writer at its end and with no other
 -- stream on the slot. The shell's stream reads. The place has the sector of its position.
 pub record StandsAt (a : Area) (used : List ℕ) (places : List (Option Place)) (k : ℕ) (p : Place) : Type 0 where
   -- its slot is used
   pub is_there : 0 < times p.slot used
-  -- it stands at most behind the slot's last byte
+  -- it is at most after the slot's last byte
   pub within : p.position ≤ length (bytes_at a p.slot)
-  -- one that writes stands there
+  -- one that writes is there
   pub at_end : p.writes ≡ true → p.position ≡ length (bytes_at a p.slot)
   -- one that writes is the only stream on its slot
   pub alone : p.writes ≡ true → (j : ℕ) (other : Place) → slice_index_or places j None ≡ Some other → other.slot ≡ p.slot → j ≡ k
@@ -110,5 +110,5 @@ pub record AreKept (names : List (List ℕ)) (a : Area) (used unused : List ℕ)
   pub filled : AreFilled names a used unused
   -- there are as many streams as there have to be
   pub numbers : length places ≡ most_streams
-  -- each open stream stands on a used slot
+  -- each open stream is on a used slot
   pub stand : (k : ℕ) (p : Place) → slice_index_or places k None ≡ Some p → StandsAt a used places k p

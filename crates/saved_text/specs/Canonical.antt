@@ -66,7 +66,7 @@ canonical_lines x =
     ∷ (codes "STEP " ++ decimal x.step) ∷ printed_regs x.regs
     ∷ (kernel_text x.bare x ++ map statement_text (statements_of x ++ Go x.go ∷ []))
 
--- its one canonical text has these lines, each of them ended by LF
+-- the one canonical text of an image: these lines, each of them ended by LF
 unfoldable pub canonical : Image → List ℕ
 canonical x = text_of_lines (canonical_lines x)
 

@@ -8,7 +8,7 @@ use Rattle.saved_text.specs.declared.images.SavedFile.{SavedFile}
 abbrev pub last_of : List SavedFile → Option SavedFile
 last_of files = slice_get files (length files - 1)
 
--- a file of this name may stand behind the others, in byte order
+-- a file of this name may come after the others, in byte order
 abbrev pub is_behind : List SavedFile → List ℕ → Bool
 is_behind files name = option_map_or (λ f. is_before f.name name) (last_of files) true
 

@@ -18,7 +18,7 @@ use Rattle.saved_text.specs.declared.images.SavedFile.{SavedFile}
 use Rattle.saved_text.specs.declared.images.SavedPipe.{SavedPipe}
 use Rattle.saved_text.specs.declared.images.SavedStream.{SavedStream}
 
--- ---- what the lines behind the head state
+-- ---- what the lines after the head state
 
 -- the bytes of a file by lines: 32 a line, and 1 to 32 in the last
 abbrev pub byte_lines : List ℕ → List (List ℕ)
@@ -53,13 +53,13 @@ abbrev pub word_statements : ℕ → List ℕ → List Statement
 word_statements a [] = []
 word_statements a (w ∷ ws) = word_statement a w ++ word_statements (a + 1) ws
 
--- its files, streams, pipes, keys and words, in this order
+-- what an image states of its files, streams, pipes, keys and words, in this order
 abbrev pub statements_of : Image → List Statement
 statements_of x =
     flat_map file_statements x.files
     ++ (map stream_statement x.streams ++ (map pipe_statement x.pipes ++ (map key_statement x.keys ++ word_statements 0 x.store)))
 
--- each line states what stands at its place
+-- each line states what is at its place
 abbrev pub AreStated : List Statement → List (List ℕ) → Type 0
 AreStated [] [] = Unit {0}
 AreStated [] (line ∷ lines) = ⊥
@@ -68,7 +68,7 @@ AreStated (s ∷ ss) (line ∷ lines) = States s line × AreStated ss lines
 
 -- ---- order and ranges
 
--- the name of each file is lawful, and stands before that of the next in byte order
+-- the name of each file is lawful, and comes before that of the next in byte order
 abbrev pub AreFiles : List SavedFile → Type 0
 AreFiles [] = Unit {0}
 AreFiles (f ∷ []) = IsTrue (is_name f.name)

@@ -141,7 +141,7 @@ shell_step x n line = do
 
 -- ---- statements
 
--- a file, which stands behind the others
+-- a file, which comes after the others
 abbrev pub file_step : Place → Image → ℕ → List ℕ → Result Draft Refusal
 file_step p x n name =
     if not (has_files p && is_behind x.files name) then Err (refusal n 1) else

@@ -47,7 +47,7 @@ pub record IsLawful (s : Session) : Type 0 where
   pub store : IsTrue (is_store_size s.version s.store)
   -- what it says of the clock, the residents and the keys
   pub machine : IsLawfulMachine s.bare s
-  -- each line may stand in such a session
+  -- each line may be in such a session
   pub lines : AllByRecursion (λ line. IsLawfulForm s.bare s.version line.form) s.lines
   -- the most steps are a number of steps
   pub steps : IsTrue (is_step s.go)
@@ -87,13 +87,13 @@ lines_text lines = flat_map (λ line. form_text line.form) lines
 abbrev pub keys_text : List (ℕ × ℕ) → List (List ℕ)
 keys_text keys = map (λ key. statement_text (KeyOf key.0 key.1)) keys
 
--- The lines of a session. No number has a leading zero, hex is in lower case, and the keys stand before the last line.
+-- The lines of a session. No number has a leading zero, hex is in lower case, and the keys come before the last line.
 abbrev pub canonical_lines : Session → List (List ℕ)
 canonical_lines s =
     head_text s.version s.store
     ++ (machine_text s.bare s.period s.resident s.debug ++ (lines_text s.lines ++ (keys_text s.keys ++ statement_text (GoOf s.go) ∷ [])))
 
--- its one canonical text has these lines, each of them ended by LF
+-- the one canonical text of a session: these lines, each of them ended by LF
 unfoldable pub canonical : Session → List ℕ
 canonical s = text_of_lines (canonical_lines s)
 

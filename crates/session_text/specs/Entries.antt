@@ -72,7 +72,7 @@ statement_keys (At step text) = map (λ c. (step, c)) (text ++ 10 ∷ [])
 statement_keys (Key step byte) = (step, byte) ∷ []
 statement_keys _ = []
 
--- the files and tasks of entries, the first of which stands in line n
+-- the files and tasks of entries, the first of which is in line n
 abbrev pub lines_in : ℕ → List Entry → List SessionLine
 lines_in n [] = []
 lines_in n (entry ∷ entries) =

@@ -10,11 +10,11 @@ form_with_text (File name bytes) text = File name (bytes ++ (text ++ 10 ∷ []))
 form_with_text (Code bytes) text = Code bytes
 form_with_text (Task id pri stack names) text = Task id pri stack names
 
--- the same of a session's line, with its place
+-- a session's line with a line of text at the end of its bytes, where it is a file
 abbrev pub line_with_text : SessionLine → List ℕ → SessionLine
 line_with_text line text = record line { form = form_with_text line.form text }
 
--- the same in the last of the lines
+-- the lines of a session with a line of text at the end of the last of them, where that is a file
 abbrev pub with_text : List SessionLine → List ℕ → List SessionLine
 with_text [] text = []
 with_text (line ∷ []) text = line_with_text line text ∷ []

@@ -12,7 +12,7 @@ abbrev pub RiseFrom : ℕ → List SessionLine → Type 0
 RiseFrom n [] = Unit {0}
 RiseFrom n (line ∷ lines) = (n ≤ line.line) × RiseFrom (line.line + 1) lines
 
--- the lines of a bare machine stand in the fourth line and on, and those of another one behind one another
+-- the lines of a bare machine begin in the fourth line, and those of another one follow one another
 abbrev pub IsNumbered : Bool → List SessionLine → Type 0
 IsNumbered true lines = AreNumbered 4 lines
 IsNumbered false lines = RiseFrom 4 lines

@@ -82,7 +82,7 @@ abbrev pub bytes_or_refusal : ℕ → Result (List ℕ) FromHexError → Result 
 bytes_or_refusal n (Ok bytes) = Ok bytes
 bytes_or_refusal n (Err e) = Err (refusal n 1)
 
--- bytes of the program, behind those of the lines before
+-- bytes of the program, after those of the lines before
 abbrev pub bytes_step : Session → ℕ → List ℕ → Result Draft Refusal
 bytes_step s n digits = do
   bytes ← bytes_or_refusal n (decode_of digits)
@@ -105,7 +105,7 @@ abbrev pub steps_after : ℕ → Statement → ℕ
 steps_after old (Go steps) = steps
 steps_after old _ = old
 
--- what line n states is put behind what the lines before it put there
+-- what line n states is put after what the lines before it put there
 abbrev pub with_statement : Session → ℕ → Statement → Draft
 with_statement s n statement = draft (place_after statement) (record s {
   lines = s.lines ++ statement_lines n statement [];

@@ -1,4 +1,4 @@
--- What a line of a machine with a clock states, with its numbers and names as they stand there.
+-- What a line of a machine with a clock states, with its numbers and names as the line has them.
 use Rattle.std.specs.Prelude.{ℕ, ◌≡◌, ◌+◌, ◌==◌, ◌||◌, ◌&&◌, ◌≤◌, if◌then◌else◌, Bool, IsTrue, List, [], ◌∷◌, ◌++◌, length, take, drop, Option, Some, None, Result, Ok, option_and_then, option_map, codes, nat_le}
 use Rattle.std.specs.Char.{is_ascii_graphic}
 use Rattle.std.specs.List.{flat_map, list_all, position, slice_split}
@@ -27,7 +27,7 @@ is_text text = list_all (λ c. is_ascii_graphic c || (c == 32)) text
 abbrev pub is_field : List ℕ → Bool
 is_field field = nat_le 1 (length field) && list_all is_ascii_graphic field
 
--- what stands between blanks
+-- what is between blanks
 abbrev pub fields : List ℕ → List (List ℕ)
 fields text = slice_split (λ c. c == 32) text
 
@@ -61,11 +61,11 @@ infixl 10 ◌>>=◌
 abbrev ◌>>=◌ : {A B : Type 0} → Option A → (A → Option B) → Option B
 o >>= f = option_and_then f o
 
--- what stands before and after the first blank, if there is one
+-- what comes before and after the first blank, if there is one
 abbrev pub split_at_blank : List ℕ → Option (List ℕ × List ℕ)
 split_at_blank text = option_map (λ i. (take i text, drop (i + 1) text)) (position (λ c. c == 32) text)
 
--- the number before the first blank, and what stands after that
+-- the number before the first blank, and what comes after that
 abbrev pub number_field : List ℕ → Option (ℕ × List ℕ)
 number_field text = do
   parts ← split_at_blank text

@@ -17,10 +17,10 @@ pub record Start : Type 0 where
   -- for how many words of a store the keeper of kinds has room
   pub room : ℕ
 
--- So much is done since then: the store stands so, the keeper knows the words of its lists, and the rest is as the code has it. The
--- shell still runs.
+-- So much is done since then: the store has these words, the keeper knows the words of its lists, and the rest is as the code has it.
+-- The shell still runs.
 pub record IsDone (b : Start) (t : List ℕ) (tells : List ℕ → Type 0) (most : ℕ) (now : Outside) (sh : Shell) (d : Disc) (ends : Bool) (x : ShellTurn) : Type 0 where
-  -- the store stands as the parts leave it, and the keeper knows its words
+  -- the store is as the parts leave it, and the keeper knows its words
   pub stands : RepresentsStanding t tells most x.standing
   -- the keeper has room for as many words as before
   pub room : most ≡ b.room
@@ -48,7 +48,7 @@ pub record IsReady (b : Start) (t : List ℕ) (tells : List ℕ → Type 0) (mos
 
 -- what a whole turn has left, and whether the machine is finished
 pub record IsShellTurn (t : List ℕ) (tells : List ℕ → Type 0) (most : ℕ) (old now : Outside) (sh : Shell) (d : Disc) (ends : Bool) (x : ShellTurn) : Type 0 where
-  -- the store stands as the turn leaves it, and the keeper knows its words
+  -- the store is as the turn leaves it, and the keeper knows its words
   pub stands : RepresentsStanding t tells most x.standing
   -- the bytes went to the console
   pub bytes : now.shown ≡ old.shown ++ x.bytes

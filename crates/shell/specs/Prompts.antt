@@ -15,7 +15,7 @@ prompt = codes "> "
 abbrev pub with_packet_sent : ℕ → ℕ → ShellTurn → ShellTurn
 with_packet_sent to kind x = and_then (requested to kind x.standing) (post_events to) x
 
--- it prompts: it writes the prompt, asks the console for a line, and reads that next
+-- the shell prompts: it writes the prompt, asks the console for a line, and reads that next
 abbrev pub prompted : ShellTurn → ShellTurn
 prompted x = in_mode Reading (with_packet_sent CONSOLE READ_LINE (shown prompt x))
 

@@ -59,7 +59,7 @@ treated (Some r) x = if r.packet == SHELL_PACKET then treated_in x.shell.mode r 
 abbrev pub packet_taken : ShellTurn → ShellTurn
 packet_taken x = and_then (left_with x.standing.words (taken x.standing.lists).lists (taken x.standing.lists).plain) (taken x.standing.lists).events x
 
--- its request, in the words that taking it leaves
+-- the request of the first packet, in the words that taking it leaves
 abbrev pub request_of : ShellTurn → Option Request
 request_of x = first_request (packet_taken x).standing.words (work x.standing.lists)
 
@@ -78,7 +78,8 @@ abbrev pub all_parts : List QueuedPacket → ShellTurn → ShellTurn
 all_parts [] x = x
 all_parts (p ∷ ps) x = first_treated (with_cleared x)
 
--- it waits where it has no packets, and still runs where it has some; at the command that finishes the machine nothing more is done
+-- the shell waits where it has no packets, and still runs where it has some; at the command that finishes the machine nothing
+-- more is done
 abbrev pub ended : ShellTurn → ShellTurn
 ended x = if x.finished then x else and_then (left_with x.standing.words (finished x.standing.lists) []) [] x
 
@@ -88,7 +89,7 @@ shell_turn words l sh d = ended (all_parts (work l) (begun words l sh d))
 
 -- ---- what it asks
 
--- It runs, its stream is open exactly while it types a file, and the disc is one.
+-- The shell runs, its stream is open exactly while it types a file, and the disc is one.
 pub record RunsShell (l : Lists) (sh : Shell) (d : Disc) : Type 0 where
   -- a resident runs
   pub runs : RunsResident l

@@ -20,7 +20,7 @@ next_piece d = bytes_read d shell_stream piece_size
 abbrev pub after_piece : Disc → Disc
 after_piece d = (after_read_on d shell_stream piece_size).disc
 
--- a stream stands at the end of its file
+-- a stream is at the end of its file
 abbrev pub is_at_end : Disc → Option Stream → Bool
 is_at_end d None = true
 is_at_end d (Some s) = s.position == length (bytes_of d s.name)
@@ -29,7 +29,7 @@ is_at_end d (Some s) = s.position == length (bytes_of d s.name)
 abbrev pub is_typed : Disc → Bool
 is_typed d = is_at_end d (stream_at d shell_stream)
 
--- then the stream is closed
+-- the disc with the shell's stream closed
 abbrev pub with_stream_closed : Disc → Disc
 with_stream_closed d = (after_close d shell_stream).disc
 

@@ -31,7 +31,7 @@ LeavesOutput n s t old new =
 abbrev pub HasCause : ℕ → ℕ → Bool → Type 0
 HasCause before now has_failed = Rose before now ⊎ (has_failed ≡ true)
 
--- A run of n steps has taken them all, or was cut off behind some, where the sink or the log failed.
+-- A run of n steps has taken them all, or was cut off after some, where the sink or the log failed.
 abbrev pub EndsRun : {E : Type 0} → ℕ → State → State → Option (List KernelEvent) → Option (List KernelEvent) → Bool → Bool → ℕ → ℕ → Result Stop E → Type 0
 EndsRun n s t old new had_failed has_failed before now (Ok stop) =
     HasRun n s t old new had_failed has_failed × (stop ≡ end_of_run (stop_of t)) × (has_failed ≡ false)

@@ -63,7 +63,7 @@ abbrev pub IsBare : State → Type 0
 IsBare (Bare m) = Unit {0}
 IsBare (Full k) = ⊥
 
--- it is full, and these parts represent its kernel
+-- the state is that of a machine with a kernel, and these parts represent its kernel
 abbrev pub RepresentsFullState : FullParts → State → Type 0
 RepresentsFullState p (Bare m) = ⊥
 RepresentsFullState p (Full k) = RepresentsKernel p k

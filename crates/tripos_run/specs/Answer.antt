@@ -48,7 +48,7 @@ pub record RunEnd : Type 0 where
   -- the words of the store
   pub words : List ℕ
 
--- it ended after so many steps, for this reason, and with these words
+-- a run ended after so many steps, for this reason, and with these words
 pub record AreEnd (x : RunEnd) (steps : ℕ) (stop : Stop) (words : List ℕ) : Type 0 where
   -- the steps
   pub steps_are : steps ≡ x.steps
@@ -83,7 +83,7 @@ abbrev pub words_text : Report → List ℕ → List ℕ
 words_text Words words = dump_text 0 words
 words_text _ words = []
 
--- a text, and behind it the closing line, and the words where they are asked for
+-- a text, and after it the closing line, and the words where they are asked for
 abbrev pub closed_answer : Report → List ℕ → RunEnd → Answer
 closed_answer report before x = record {
   status = status_of x.stop;
@@ -104,7 +104,7 @@ abbrev pub session_answer : Report → Result Session Refusal → Answer
 session_answer report (Ok s) = machine_answer report s.go (boot s)
 session_answer report (Err r) = refused_answer r
 
--- ---- a session that is debugged by the lines behind it
+-- ---- a session that is debugged by the lines after it
 
 -- what the lines wrote, and the closing line of the last state
 abbrev pub told_answer : Told → Answer

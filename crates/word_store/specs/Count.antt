@@ -1,4 +1,4 @@
--- How often an address stands in a list. Lists that are apart are said by counts, which add over joined lists.
+-- How often an address is in a list. Lists that are apart are said by counts, which add over joined lists.
 use Rattle.std.specs.Prelude.{ℕ, ◌+◌, ◌≤◌, ◌==◌, if◌then◌else◌, List, [], ◌∷◌}
 use Rattle.std.specs.List.{flat_map, range_with_len}
 
@@ -6,12 +6,12 @@ use Rattle.std.specs.List.{flat_map, range_with_len}
 abbrev pub hit : ℕ → ℕ → ℕ
 hit a b = if a == b then 1 else 0
 
--- how often the address stands in the list
+-- how often the address is in the list
 abbrev pub times : ℕ → List ℕ → ℕ
 times a [] = 0
 times a (x ∷ xs) = hit a x + times a xs
 
--- no address stands twice
+-- no address is there twice
 abbrev pub IsApart : List ℕ → Type 0
 IsApart xs = (a : ℕ) → times a xs ≤ 1
 

@@ -21,7 +21,7 @@ assembly_of text = do
   code ← encode 1 layout.table first_offset (lines_of text)
   Ok (module_of code)
 
--- its printed text
+-- the printed text of the module that an assembly text makes, or the first line in error
 abbrev pub assembled : List ℕ → Result (List ℕ) Refusal
 assembled text = do
   m ← assembly_of text

@@ -47,7 +47,7 @@ pub record Assembles (text : List ℕ) (m : Module) : Type 0 where
   -- the module is made of these
   pub made : m ≡ module_of (code_of_pieces pieces)
 
--- the relocations of each hunk stand in rising order
+-- the relocations of each hunk are in rising order
 abbrev pub RelocationsRise : Module → Type 0
 RelocationsRise m = AllByRecursion (λ hunk. IsStrictlyIncreasing hunk.relocations) m.hunks
 

@@ -20,7 +20,7 @@ pair_words pairs = flat_map (λ p. p.0 ∷ p.1 ∷ []) pairs
 abbrev pub highest : List (ℕ × ℕ) → ℕ
 highest pairs = fold max 0 (map (λ p. p.0) pairs)
 
--- after the code stands a 0, and where there are pairs those and the highest number
+-- after the code comes a 0, and where there are pairs those and the highest number
 abbrev pub closing : List (ℕ × ℕ) → List ℕ
 closing [] = 0 ∷ []
 closing (p ∷ ps) = (0 ∷ pair_words (p ∷ ps)) ++ highest (p ∷ ps) ∷ []

@@ -5,7 +5,7 @@ use Rattle.instruction_set.specs.declared.instruction_table.forms.Form.TheVarian
 use Rattle.assembly.specs.declared.assembly_text.operands.Operands.{Operands}
 use Rattle.assembly.specs.declared.assembly_text.operands.Operands.TheVariants.{Nothing, Number}
 
--- nothing, where the number stands in the name, and else the number
+-- nothing, where the number is in the name, and else the number
 abbrev pub operands_with : Form → ℕ → Operands
 operands_with (Plain k) n = Nothing
 operands_with Switch n = Nothing

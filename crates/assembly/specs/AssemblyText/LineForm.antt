@@ -16,7 +16,7 @@ use Rattle.assembly.specs.declared.assembly_text.statements.Statement.TheVariant
 
 -- ---- the parts of a text
 
--- the byte does not stand in the text
+-- the byte is not in the text
 abbrev pub IsFreeOf : ℕ → List ℕ → Type 0
 IsFreeOf byte text = AllByRecursion (λ c. c ≢ byte) text
 
@@ -31,12 +31,12 @@ pub record IsCommented (text code : List ℕ) : Type 0 where
   pub comment : List ℕ
   -- the text is both
   pub all : text ≡ code ++ comment
-  -- no semicolon stands before it
+  -- no semicolon comes before it
   pub free : IsFreeOf 59 code
   -- it begins with one
   pub ends : EndsAt 59 comment
 
--- the parts stand between spaces
+-- the parts are between spaces
 pub data AreParts : List ℕ → List (List ℕ) → Type 0 where
   at_end : AreParts [] []
   space : {text : List ℕ} {parts : List (List ℕ)} → AreParts text parts → AreParts (32 ∷ text) parts
@@ -54,7 +54,7 @@ pub record Range : Type 0 where
   -- how many bytes hold one
   pub size : ℕ
 
--- those that an instruction may have, by the form of its operand
+-- the numbers that an instruction may have, by the form of its operand
 abbrev pub range_of : Form → Option Range
 range_of Byte = Some (record { low = pos 0; high = pos 255; size = 1 })
 range_of BytePlus = Some (record { low = pos 256; high = pos 511; size = 1 })
@@ -62,7 +62,7 @@ range_of Half = Some (record { low = pos 0; high = pos 65535; size = 2 })
 range_of Word = Some (record { low = negsuc 2147483647; high = pos 4294967295; size = 4 })
 range_of _ = None
 
--- and those that a line of data may have
+-- the numbers that a line of data may have
 abbrev pub data_range : Directive → Option Range
 data_range directive.Byte = Some (record { low = negsuc 127; high = pos 255; size = 1 })
 data_range directive.Half = Some (record { low = negsuc 32767; high = pos 65535; size = 2 })

@@ -101,7 +101,7 @@ abbrev pub statement_of : List (List ℕ) → Result Statement LineError
 statement_of [] = Ok (says.Fixed [])
 statement_of (name ∷ parts) = statement_named name (operands_of parts)
 
--- what stands before the colon, if a part ends with one
+-- what comes before the colon, if a part ends with one
 abbrev pub before_colon : List ℕ → Option (List ℕ)
 before_colon part = if ends_with nat_eq part (codes ":") then Some (take (length part - 1) part) else None
 

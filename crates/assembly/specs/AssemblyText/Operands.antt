@@ -8,11 +8,11 @@ use Rattle.assembly.specs.declared.assembly_text.errors.LineError.TheVariants.{N
 use Rattle.assembly.specs.declared.assembly_text.operands.Operands.{Operands}
 use Rattle.assembly.specs.declared.assembly_text.operands.Operands.TheVariants.{Nothing, Number, Label, NumberAndLabel, Other}
 
--- one part is a number or a label
+-- what a single part after the name is: a number, a label, or neither
 abbrev pub one_operand : List ℕ → Operands
 one_operand part = option_map_or Number (number_of part) (option_map_or Label (label_of part) Other)
 
--- two parts are a number and a label
+-- what two parts after the name are: a number and a label, or neither
 abbrev pub both : List ℕ → List ℕ → Operands
 both p q = option_map_or (λ n. option_map_or (NumberAndLabel n) (label_of q) Other) (number_of p) Other
 
@@ -43,7 +43,7 @@ abbrev pub numbered_label : Operands → Result (ℤ × List ℕ) LineError
 numbered_label (NumberAndLabel n l) = Ok (n, l)
 numbered_label _ = Err NoForm
 
--- a name that is unknown may have nothing, a number or a label behind it
+-- nothing, a number or a label may come after a name that is unknown
 abbrev pub unknown_name : Operands → LineError
 unknown_name Nothing = UnknownName
 unknown_name (Number n) = UnknownName

@@ -40,7 +40,7 @@ half_distance from place =
 abbrev pub word_address : Place → Result ℕ LineError
 word_address place = if place.offset % 4 == 0 then Ok (place.offset / 4) else Err OutOfReach
 
--- the operand byte stands behind the instruction's own byte
+-- the operand byte comes after the instruction's own byte
 abbrev pub relative : Table → ℕ → ℕ → List ℕ → Result Piece LineError
 relative table offset byte label = do
   place ← found table label

@@ -1,4 +1,4 @@
--- Where the bytes of a line stand, as offsets in bytes from the hunk's begin.
+-- Where the bytes of a line are, as offsets in bytes from the hunk's begin.
 use Rattle.std.specs.Prelude.{ℕ, ◌+◌, ◌*◌, ◌/◌, ◌==◌, if◌then◌else◌, length}
 use Rattle.assembly.specs.declared.assembly_text.statements.Boundary.{Boundary}
 use Rattle.assembly.specs.declared.assembly_text.statements.Boundary.TheVariants.{Half, Word}
@@ -31,7 +31,7 @@ abbrev pub pairs_of : Statement → ℕ
 pairs_of (Global number label) = 1
 pairs_of _ = 0
 
--- code begins behind the word that has the hunk's length
+-- code begins after the word that has the hunk's length
 abbrev pub first_offset : ℕ
 first_offset = 4
 

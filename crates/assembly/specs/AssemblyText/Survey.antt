@@ -1,4 +1,4 @@
--- The lines of a text, surveyed: where each stands and what its label names.
+-- The lines of a text, surveyed: where each is and what its label names.
 use Rattle.std.specs.Prelude.{ℕ, ◌+◌, if◌then◌else◌, List, [], ◌∷◌, nat_lt, Result, Ok, Err}
 use Rattle.assembly.specs.AssemblyText.Labels.{Table, no_labels, repeats, with_label}
 use Rattle.assembly.specs.AssemblyText.Places.{end_of, first_offset, hunk_size, most_words, pairs_of}

@@ -40,7 +40,7 @@ abbrev pub word_role : List ℕ → List (List ℕ) → Role
 word_role word all =
     elim (switch_named word all) [ Some k ↦ SwitchName k | None ↦ elim (other_named word all) [ Some k ↦ EntryName k | None ↦ NoName ] ]
 
--- the same of an item, which is no name where it is quoted
+-- what an item is: the name of a switch, the name of another entry, or no name, as always where it is quoted
 abbrev pub role_of : List ℕ → List (List ℕ) → Item → Role
 role_of line all item = if is_word item then word_role (slice_range line item.from item.to) all else NoName
 
@@ -50,7 +50,7 @@ IsBelow n (SwitchName k) = k < n
 IsBelow n (EntryName k) = k < n
 IsBelow n NoName = Unit {0}
 
--- whether a value that stands alone may be this entry's
+-- whether a value that is alone may be this entry's
 abbrev pub is_free : List ℕ × Arg → Bool
 is_free pair = is_unset pair.1 && not (is_keyword pair.0 || is_switch pair.0)
 

@@ -5,7 +5,7 @@ use Rattle.command_lines.specs.declared.argument_templates.items.Item.{Item}
 use Rattle.command_lines.specs.declared.argument_templates.items.Form.TheVariants.{Word, Quoted, Open}
 use Rattle.command_lines.specs.ArgumentTemplates.Line.{item}
 
--- the byte does not stand in the text
+-- the byte is not in the text
 abbrev pub IsFreeOf : ℕ → List ℕ → Type 0
 IsFreeOf byte text = AllByRecursion (λ c. c ≢ byte) text
 

@@ -8,7 +8,7 @@ use Rattle.command_lines.specs.declared.argument_templates.items.Form.TheVariant
 abbrev pub item : Form → ℕ → ℕ → Item
 item form from to = record { form = form; from = from; to = to }
 
--- where a byte of a line stands: between items, in a word that began at a place, or in quotes
+-- where a byte of a line is: between items, in a word that began at a place, or in quotes
 pub data Place : Type 0 where
   between : Place
   in_word : ℕ → Place

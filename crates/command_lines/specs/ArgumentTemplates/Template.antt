@@ -9,11 +9,11 @@ abbrev pub entries : List ℕ → List (List ℕ)
 entries [] = []
 entries (c ∷ cs) = slice_split (λ b. b == 44) (c ∷ cs)
 
--- before an entry's first slash stand its names, separated by `=`
+-- before an entry's first slash are its names, separated by `=`
 abbrev pub names : List ℕ → List (List ℕ)
 names entry = slice_split (λ b. b == 61) (before_first (λ b. b == 47) entry)
 
--- and from there on its qualifiers
+-- the qualifiers of an entry, from its first slash on
 abbrev pub qualifiers : List ℕ → List ℕ
 qualifiers entry = drop (position_or_len (λ b. b == 47) entry) entry
 
@@ -34,7 +34,7 @@ is_keyword entry = list_any (λ c. c == 75) (qualifiers entry)
 abbrev pub is_switch : List ℕ → Bool
 is_switch entry = list_any (λ c. c == 83) (qualifiers entry)
 
--- one or more letters and digits
+-- a name that an entry may have: one or more letters and digits
 abbrev pub is_entry_name : List ℕ → Bool
 is_entry_name text = nat_le 1 (length text) && list_all is_ascii_alphanumeric text
 
@@ -42,12 +42,12 @@ is_entry_name text = nat_le 1 (length text) && list_all is_ascii_alphanumeric te
 abbrev pub has_name : List ℕ → List ℕ → Bool
 has_name word entry = list_any (λ name. str_eq_ignore_ascii_case name word) (names entry)
 
--- a name stands once among its entry's, and in no other entry
+-- a name is there once among its entry's, and in no other entry
 abbrev pub stands_once : List (List ℕ) → List ℕ → List ℕ → Bool
 stands_once all entry name =
     (count_by (λ other. str_eq_ignore_ascii_case other name) (names entry) == 1) && (count_by (has_name name) all == 1)
 
--- an entry's names are names, and stand nowhere else
+-- an entry's names are names, and are nowhere else
 abbrev pub are_names : List (List ℕ) → List ℕ → Bool
 are_names all entry = list_all (λ name. is_entry_name name && stands_once all entry name) (names entry)
 

@@ -30,7 +30,7 @@ second_since (f ∷ g ∷ gs) = g.since
 abbrev pub forgotten : KeptFiles → KeptFiles
 forgotten f = record f { since = 0 }
 
--- the last came to be after n steps
+-- whether the files that were kept last came to be after n steps
 abbrev pub is_later : ℕ → Option KeptFiles → Bool
 is_later n None = false
 is_later n (Some f) = nat_lt n f.since
@@ -40,11 +40,11 @@ abbrev pub to_front : Option KeptFiles → List KeptFiles → List KeptFiles
 to_front None fs = fs
 to_front (Some f) fs = forgotten f ∷ take (length fs - 1) fs
 
--- where it did, it goes to the front
+-- files that came to be after n steps, where they are the last, go to the front
 abbrev pub front_from_last : ℕ → Option KeptFiles → List KeptFiles → List KeptFiles
 front_from_last n last fs = if is_later n last then to_front last fs else fs
 
--- and so on, `most` times at most
+-- files that came to be after n steps go to the front, from the last one on, at most `most` of them
 unfoldable pub gone_back : ℕ → ℕ → List KeptFiles → List KeptFiles
 gone_back zero n fs = fs
 gone_back (suc most) n fs = gone_back most n (front_from_last n (last_item fs) fs)

@@ -45,7 +45,7 @@ pub record IsMember (keys : List (ℕ × ℕ)) (n : ℕ) (fs : List KeptFiles) (
   -- it is one between steps
   pub sound : IsSound (read keys fs p)
 
--- each state is a step behind the one before it, and n steps are taken now
+-- each state is a step after the one before it, and n steps are taken now
 abbrev pub AreInOrder : ℕ → List State → Type 0
 AreInOrder n [] = Unit {0}
 AreInOrder n (s ∷ ss) = (steps_of s + length (s ∷ ss) ≡ n) × AreInOrder n ss
@@ -136,7 +136,7 @@ abbrev pub with_files_of : Option KeptFiles → Parts → Parts
 with_files_of None p = p
 with_files_of (Some f) p = record p { disc = f.disc; pipes = f.pipes }
 
--- with what they had at the moment, if there is one of their kind
+-- the parts of a bare machine with the words of its store, and what was kept at the moment, if it was one of its kind
 abbrev pub bare_parts_back : Option Moment → List ℕ → BareParts → BareParts
 bare_parts_back (Some (BareKind m)) words p = record p { store = words; regs = m.regs; step = m.step }
 bare_parts_back _ words p = record p { store = words }
@@ -146,7 +146,7 @@ abbrev pub at_moment : Option Moment → List ℕ → Parts → Parts
 at_moment (Some (FullKind m)) words p = with_moment m (record p { store = words })
 at_moment _ words p = record p { store = words }
 
--- and with the files that stood then, if any are kept
+-- the parts of a machine with the files that there were after its steps, if any are kept
 abbrev pub with_kept_files : Option (Buffer KeptFiles) → Parts → Parts
 with_kept_files None p = p
 with_kept_files (Some b) p = with_files_of (last_files (gone_back 17 p.step b.items)) p

@@ -69,7 +69,7 @@ pub record IsTakenFrom (p : Parts) (m : KernelMoment) : Type 0 where
   -- the period
   pub period : m.period ≡ p.period
 
--- these are the files, if there are any
+-- these are the files that are kept, where any are
 abbrev pub AreFiles : Files → Option Files → Type 0
 AreFiles f None = Unit {0}
 AreFiles f (Some g) = f ≡ g

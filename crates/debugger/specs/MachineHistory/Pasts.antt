@@ -13,7 +13,7 @@ pub record Files : Type 0 where
   -- the pipes
   pub pipes : List (Option Pipe)
 
--- those of a state; a machine without a kernel has none
+-- the files and pipes of a state; a machine without a kernel has none
 abbrev pub files_of : State → Option Files
 files_of (Bare m) = None
 files_of (Full k) = Some (record { disc = k.disc; pipes = k.pipes })

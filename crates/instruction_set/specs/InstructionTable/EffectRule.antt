@@ -58,7 +58,7 @@ tests = ("JEQ", Eq) ∷ ("JNE", Ne) ∷ ("JLS", Ls) ∷ ("JGR", Gr) ∷ ("JLE", 
 abbrev pub without_size : List ℕ → List ℕ
 without_size letters = take (length letters - 1) letters
 
--- G behind the number k is a way through a global, as in L1G, and P one through a word of the frame, as in ST0P3. A jump
+-- G after the number k is a way through a global, as in L1G, and P one through a word of the frame, as in ST0P3. A jump
 -- with a condition compares with 0 where a 0 follows. Else the letters alone tell the effect.
 unfoldable pub effect_named : List ℕ → Option Effect
 effect_named name =

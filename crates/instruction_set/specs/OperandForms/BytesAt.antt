@@ -1,11 +1,11 @@
--- Bytes that stand in code, and the instructions that they make.
+-- Bytes that are in code, and the instructions that they make.
 use Rattle.std.specs.Prelude.{◌≡◌, ℕ, ◌+◌, List, [], ◌∷◌, length, Option, Some}
 use Rattle.word_store.specs.Arithmetic.{add}
 use Rattle.instruction_set.specs.InstructionTable.Operand.{operand_bytes}
 use Rattle.instruction_set.specs.InstructionTable.Table.{Entry}
 use Rattle.instruction_set.specs.declared.operand_forms.instructions.Instr.{Instr}
 
--- the bytes stand in the code from an address on
+-- the bytes are in the code from an address on
 abbrev pub StandsAt : (ℕ → Option ℕ) → ℕ → List ℕ → Type 0
 StandsAt code a [] = Unit {0}
 StandsAt code a (b ∷ bs) = (code a ≡ Some b) × StandsAt code (add a 1) bs

@@ -53,11 +53,11 @@ number_operand n length = record { number = n; length = length; target = 0 }
 abbrev pub target_operand : ℕ → Operand
 target_operand t = record { number = 0; length = 2; target = t }
 
--- where the halfword of an indirect form stands, whose operand byte is b
+-- where the halfword of an indirect form is, whose operand byte is b
 abbrev pub halfword_place : ℕ → ℕ → ℕ
 halfword_place pc b = even_below (add (add pc 1) (2 * b))
 
--- the operand of a form, behind the function byte at pc
+-- the operand of a form, after the function byte at pc
 abbrev pub operand_at : (ℕ → Option ℕ) → ℕ → Form → Result Operand DecodeEnd
 operand_at code pc (Plain n) = Ok (number_operand n 1)
 operand_at code pc Byte = do

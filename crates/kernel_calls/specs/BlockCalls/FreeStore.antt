@@ -10,7 +10,7 @@ use Rattle.kernel_model.specs.KernelRecord.Lists.{Lists}
 abbrev pub has_room : ℕ → Lists → Bool
 has_room u l = is_some (first_run (need u) l.blocks)
 
--- the first data word of a block that stands at the front of a run
+-- the first data word of a block that is at the front of a run
 abbrev pub data_of_front : Option Run → ℕ
 data_of_front None = 0
 data_of_front (Some run) = run.start + 1

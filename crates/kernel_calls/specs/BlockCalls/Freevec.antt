@@ -31,7 +31,7 @@ abbrev pub IsUsersBlock : Lists → ℕ → Result Block ℕ → Type 0
 IsUsersBlock l v (Ok b) = (used_at v l.blocks ≡ Some b) × (use_of_data l v ≡ User)
 IsUsersBlock l v (Err code) = (is_users_block l v ≡ false) × (code ≡ 6)
 
--- one of the words 0 to 4 of a packet lies in the block's data
+-- whether one of the words 0 to 4 of a packet lies in the data of a block
 abbrev pub lies_in : Block → QueuedPacket → Bool
 lies_in b p = list_any (has_data b) (range_with_len p.address 5)
 
@@ -44,7 +44,7 @@ holds_packet l (Some b) = list_any (lies_in b) (queued l)
 abbrev pub has_packet_in : Lists → ℕ → Bool
 has_packet_in l v = holds_packet l (used_at v l.blocks)
 
--- it is a user's block (code 6), and no packet lies in it (code 7)
+-- the tests of the call: the block is a user's (code 6), and no packet lies in it (code 7)
 abbrev pub freevec_tests : Lists → ℕ → List (Bool × ℕ)
 freevec_tests l v = (is_users_block l v, 6) ∷ (not (has_packet_in l v), 7) ∷ []
 

@@ -26,7 +26,7 @@ abbrev pub by_refusal : Option ℕ → Lists → Made → Made
 by_refusal None l made = made
 by_refusal (Some code) l made = refused l code
 
--- it is refused by the first of its tests that does not hold, and else makes this
+-- a call is refused by the first of its tests that does not hold, and else makes this
 abbrev pub unless_refused : List (Bool × ℕ) → Lists → Made → Made
 unless_refused tests l made = by_refusal (first_refusal tests) l made
 
@@ -34,7 +34,7 @@ unless_refused tests l made = by_refusal (first_refusal tests) l made
 abbrev pub minus_one : ℕ
 minus_one = 2 ^ 32 - 1
 
--- it leaves these lists, and does nothing else
+-- a call is accepted with the answer -1, leaves these lists, and does nothing else
 abbrev pub done : Lists → Made
 done l = record { answer = Ok minus_one; lists = l; plain = []; events = [] }
 
@@ -51,7 +51,7 @@ pub record Leaves (s t : List ℕ) (answer : Result ℕ ℕ) (m : Made) : Type 0
   -- this is the answer
   pub answered : answer ≡ m.answer
 
--- And the keeper knows the words of these lists.
+-- A call has left this in a store, and the keeper knows the words of its lists.
 pub record IsMade (s t : List ℕ) (tells : List ℕ → Type 0) (answer : Result ℕ ℕ) (m : Made) : Type 0 where
   -- what the call leaves
   pub leaves : Leaves s t answer m

@@ -4,6 +4,6 @@ use Rattle.kernel_lists.specs.LinkedList.Places.{has}
 use Rattle.kernel_lists.specs.HunkLoader.HeldModules.{module_address}
 use Rattle.kernel_model.specs.KernelRecord.Lists.{Lists}
 
--- a module stands there
+-- there is a module at the address
 abbrev pub has_module : Lists → ℕ → Bool
 has_module l m = has m (map module_address l.modules)

@@ -9,6 +9,6 @@ use Rattle.kernel_model.specs.KernelRecord.ValidTasks.{dead}
 abbrev pub is_dead : Lists → ℕ → Bool
 is_dead l id = list_any (λ t. (t.id == id) && (t.field == dead)) l.tasks
 
--- those of a task that has none
+-- the coroutines of a task that has none
 abbrev pub no_coroutines : TaskCoroutines
 no_coroutines = record { list = []; active = []; root_p = 0; root_pc = 0 }

@@ -6,7 +6,7 @@ use Rattle.kernel_model.specs.KernelRecord.Lists.{Lists}
 use Rattle.kernel_calls.specs.CoroutineCalls.CallersCoroutines.{coroutines_of_caller, has_parent, is_one_of}
 use Rattle.kernel_calls.specs.CoroutineCalls.Switched.{Switched, switched, unless_refused}
 
--- it is one of the caller's (code 21), and has no parent (code 22)
+-- the tests of a coroutine that is to be called: it is one of the caller's (code 21), and has no parent (code 22)
 abbrev pub idle_tests : ℕ → TaskCoroutines → List (Bool × ℕ)
 idle_tests c k = (is_one_of c k, 21) ∷ (not (has_parent c k), 22) ∷ []
 

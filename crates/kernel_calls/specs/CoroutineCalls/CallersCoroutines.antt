@@ -9,7 +9,7 @@ use Rattle.kernel_model.specs.KernelRecord.Lists.{Lists}
 use Rattle.kernel_model.specs.KernelRecord.Task.{Task}
 use Rattle.kernel_calls.specs.CallAnswers.Tasks.{no_coroutines}
 
--- those of the running task
+-- the coroutines of the running task
 abbrev pub coroutines_of_caller : Lists → TaskCoroutines
 coroutines_of_caller l = option_map_or (λ t. t.coroutines) (find (λ t. t.id == l.running) l.tasks) no_coroutines
 
@@ -21,7 +21,7 @@ is_one_of c k = has c (map address_of k.list)
 abbrev pub has_parent : ℕ → TaskCoroutines → Bool
 has_parent c k = has c k.active
 
--- one of them is current, and not the root
+-- whether a coroutine is current, and not the root
 abbrev pub is_within : TaskCoroutines → Bool
 is_within k = not (current_of k == 0)
 

@@ -23,6 +23,6 @@ IsWithin l = is_within (coroutines_of_caller l) ≡ true
 abbrev pub with_ended : TaskCoroutines → TaskCoroutines
 with_ended k = with_waiting (bottom (current_of k)) (function_of (current_of k) k.list) k
 
--- its parent goes on with what A holds
+-- the function of the current coroutine has returned: its parent goes on with what A holds
 abbrev pub ended : Lists → Regs → Switched
 ended l r = switched with_ended r.a l r

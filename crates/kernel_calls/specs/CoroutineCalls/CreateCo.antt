@@ -11,15 +11,15 @@ use Rattle.kernel_calls.specs.CoroutineCalls.CallersCoroutines.{with_callers}
 abbrev pub create_tests : Lists → ℕ → List (Bool × ℕ)
 create_tests l u = (has_room (highest u) l, 20) ∷ []
 
--- with a new one at c, which comes first
+-- the task's coroutines with a new one at c, which comes first
 abbrev pub with_created : ℕ → ℕ → ℕ → TaskCoroutines → TaskCoroutines
 with_created c entry u k = with_list (new_coroutine c entry u ∷ k.list) k
 
--- the lists where it stands at c, in a block that was taken for it
+-- the lists with the coroutine at c, in a block that was taken for it
 abbrev pub with_created_at : ℕ → ℕ → ℕ → Lists → Lists
 with_created_at c entry u l = with_callers (with_created c entry u) (with_taken (highest u) l)
 
--- its address is the answer
+-- a coroutine is made at c, and c is the answer
 abbrev pub created : ℕ → ℕ → ℕ → Lists → Made
 created c entry u l = record { answer = Ok c; lists = with_created_at c entry u l; plain = []; events = [] }
 

@@ -9,7 +9,8 @@ use Rattle.kernel_calls.specs.CallAnswers.Made.{Made, done, unless_refused}
 use Rattle.kernel_calls.specs.CoroutineCalls.CallCo.{idle_tests}
 use Rattle.kernel_calls.specs.CoroutineCalls.CallersCoroutines.{coroutines_of_caller, with_callers}
 
--- it is one of the caller's (code 21), which has no parent (code 22), and no queued packet lies in its block (code 24)
+-- the tests of the call: the coroutine is one of the caller's (code 21), has no parent (code 22), and no queued packet lies in
+-- its block (code 24)
 abbrev pub delete_tests : Lists → ℕ → List (Bool × ℕ)
 delete_tests l c = idle_tests c (coroutines_of_caller l) ++ (not (has_packet_in l c), 24) ∷ []
 
@@ -17,7 +18,7 @@ delete_tests l c = idle_tests c (coroutines_of_caller l) ++ (not (has_packet_in 
 abbrev pub with_deleted : ℕ → TaskCoroutines → TaskCoroutines
 with_deleted c k = with_list (filter (λ x. not (x.address == c)) k.list) k
 
--- it goes, and its block is given back
+-- the lists without the coroutine at c, with its block given back
 abbrev pub with_deleted_at : ℕ → Lists → Lists
 with_deleted_at c l = with_given c (with_callers (with_deleted c) l)
 

@@ -6,7 +6,8 @@ use Rattle.kernel_model.specs.KernelRecord.Lists.{Lists}
 use Rattle.kernel_calls.specs.CoroutineCalls.CallersCoroutines.{coroutines_of_caller, has_parent, is_one_of, is_within}
 use Rattle.kernel_calls.specs.CoroutineCalls.Switched.{Switched, handed, switched, unless_refused}
 
--- it is one of the caller's (code 21), which is not in its root (code 23); it has no parent, or is the current one (code 22)
+-- the tests of the call: the coroutine is one of the caller's (code 21), which is not in its root (code 23), and it has no
+-- parent, or is the current one (code 22)
 abbrev pub resume_tests : ℕ → TaskCoroutines → List (Bool × ℕ)
 resume_tests c k = (is_one_of c k, 21) ∷ (is_within k, 23) ∷ (not (has_parent c k) || (current_of k == c), 22) ∷ []
 

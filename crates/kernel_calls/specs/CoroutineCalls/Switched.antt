@@ -29,7 +29,7 @@ abbrev pub by_refusal : Option ℕ → Lists → Regs → Switched → Switched
 by_refusal None l r made = made
 by_refusal (Some code) l r made = refused l r code
 
--- it is refused by the first of its tests that does not hold, and else makes this
+-- a switch is refused by the first of its tests that does not hold, and else makes this
 abbrev pub unless_refused : List (Bool × ℕ) → Lists → Regs → Switched → Switched
 unless_refused tests l r made = by_refusal (first_refusal tests) l r made
 

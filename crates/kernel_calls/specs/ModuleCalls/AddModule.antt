@@ -37,11 +37,11 @@ modules_so_far (Some t) = length t.modules
 abbrev pub task_of : ℕ → Lists → Option Task
 task_of id l = find (λ t. t.id == id) l.tasks
 
--- where its globals begin
+-- where the globals of the task with the number begin
 abbrev pub globals_of_task : ℕ → Lists → ℕ
 globals_of_task id l = globals_at l.version (task_of id l)
 
--- one of the words 0 to 4 of a packet is one of the 1,001 words of globals at g
+-- whether one of the words 0 to 4 of a packet is one of the 1,001 words of globals at g
 abbrev pub lies_in_globals : ℕ → QueuedPacket → Bool
 lies_in_globals g p = list_any (λ a. nat_le g a && nat_lt a (g + 1001)) (range_with_len p.address 5)
 
@@ -49,7 +49,8 @@ lies_in_globals g p = list_any (λ a. nat_le g a && nat_lt a (g + 1001)) (range_
 abbrev pub has_packet_in_globals : Lists → ℕ → Bool
 has_packet_in_globals l id = list_any (lies_in_globals (globals_of_task id l)) (queued l)
 
--- it is dead (code 11), there is such a module (17), it may have one more (28), and the module's globals fit (18)
+-- the tests of the task and the module: the task is dead (code 11), there is such a module (17), the task may have one more (28),
+-- and the module's globals fit (18)
 abbrev pub check_tests : List ℕ → Lists → ℕ → ℕ → List (Bool × ℕ)
 check_tests s l id m = (is_dead l id, 11) ∷ (has_module l m, 17) ∷ (has_module_room l id, 28) ∷ (globals_fit s m, 18) ∷ []
 
@@ -58,11 +59,11 @@ abbrev pub IsCounted : List ℕ → Lists → ℕ → ℕ → Task → Result �
 IsCounted s l id m t (Ok count) = (first_refusal (check_tests s l id m) ≡ None) × (count ≡ length t.modules)
 IsCounted s l id m t (Err code) = first_refusal (check_tests s l id m) ≡ Some code
 
--- It is a guest (codes 2, 14), passes these, and no packet lies in its globals (7).
+-- The tests of the call: the task is a guest (codes 2, 14), it and the module pass theirs, and no packet lies in its globals (7).
 abbrev pub addition_tests : List ℕ → Lists → ℕ → ℕ → List (Bool × ℕ)
 addition_tests s l id m = guest_tests l id ++ (check_tests s l id m ++ (not (has_packet_in_globals l id), 7) ∷ [])
 
--- the task's modules with this one behind them
+-- the task's modules with this one after them
 abbrev pub with_further : ℕ → Task → Task
 with_further m t = record t { modules = t.modules ++ m ∷ [] }
 

@@ -8,11 +8,11 @@ use Rattle.kernel_model.specs.KernelRecord.Lists.{Lists}
 use Rattle.kernel_calls.specs.CallAnswers.Made.{Made, unless_refused}
 use Rattle.kernel_calls.specs.BlockCalls.FreeStore.{data_taken, has_room, with_taken}
 
--- where the module of these hunks will stand
+-- where the module of these hunks will be
 abbrev pub loaded_at : List Hunk → Lists → ℕ
 loaded_at hunks l = data_taken (last_word hunks) l
 
--- it is the first module then, in a block of its own
+-- the lists with a module loaded: it is the first one, in a block of its own
 abbrev pub with_loaded : List Hunk → Lists → Lists
 with_loaded hunks l = with_modules (loaded_module (loaded_at hunks l) hunks ∷ l.modules) (with_taken (last_word hunks) l)
 
@@ -20,7 +20,7 @@ with_loaded hunks l = with_modules (loaded_module (loaded_at hunks l) hunks ∷ 
 abbrev pub load_tests : Lists → List Hunk → List (Bool × ℕ)
 load_tests l hunks = (has_room (last_word hunks) l, 1) ∷ []
 
--- its relocated words are written as plain ones
+-- A module is loaded, unless there is no room. Its relocated words are written as plain ones, and its address is the answer.
 abbrev pub load_module : Lists → List Hunk → Made
 load_module l hunks =
     unless_refused (load_tests l hunks) l

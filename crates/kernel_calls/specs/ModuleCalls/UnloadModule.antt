@@ -16,7 +16,7 @@ is_in_use l m = list_any (λ t. has m t.modules) l.tasks
 abbrev pub use_tests : Lists → ℕ → List (Bool × ℕ)
 use_tests l m = (has_module l m, 17) ∷ (not (is_in_use l m), 26) ∷ []
 
--- and no packet lies in its block (code 7)
+-- the tests of the call: those of its use, and no packet lies in its block (code 7)
 abbrev pub unload_tests : Lists → ℕ → List (Bool × ℕ)
 unload_tests l m = use_tests l m ++ (not (has_packet_in l m), 7) ∷ []
 
@@ -24,6 +24,6 @@ unload_tests l m = use_tests l m ++ (not (has_packet_in l m), 7) ∷ []
 abbrev pub without_module : ℕ → Lists → Lists
 without_module m l = with_modules (without_first (λ x. m == x.address) l.modules) l
 
--- it goes out, and its block is given back
+-- The module goes, and its block is given back, unless it is refused; the answer is -1.
 abbrev pub unload_module : Lists → ℕ → Made
 unload_module l m = unless_refused (unload_tests l m) l (done (with_given m (without_module m l)))

@@ -20,7 +20,7 @@ place_of n =
 abbrev pub is_destination : Lists → ℕ → Bool
 is_destination l n = (n == device 1) || ((n == device 2) || ((n == device 3) || has_task n l.tasks))
 
--- the queue that stands at a place
+-- the queue that is at a place
 abbrev pub queue_for : Lists → Place → Queue
 queue_for l (Work id) = queues.Work (address_of_task l id)
 queue_for l Clock = queues.Clock

@@ -12,9 +12,9 @@ use Rattle.kernel_calls.specs.PacketCalls.Destinations.{is_destination, place_of
 use Rattle.kernel_calls.specs.PacketCalls.PacketMoves.{stands_in, with_departed}
 use Rattle.kernel_calls.specs.declared.packet_calls.dequeue.Found.{Found}
 
--- A queue that is searched: where it stands, its number as events name it, and the answer where the packet is found in it.
+-- A queue that is searched: where it is, its number as events name it, and the answer where the packet is found in it.
 pub record Search : Type 0 where
-  -- where the queue stands
+  -- where the queue is
   pub place : Place
   -- its number, as events name it
   pub number : ℕ
@@ -25,7 +25,7 @@ pub record Search : Type 0 where
 abbrev pub pending_number : ℕ
 pending_number = 103
 
--- with the console's queue, also the reads that wait for a line
+-- where the number is the console's, the reads that wait for a line are searched too
 abbrev pub further_searches : ℕ → List Search
 further_searches id = if id == 3 then record { place = Pending; number = pending_number; answer = id } ∷ [] else []
 

@@ -46,11 +46,11 @@ unqueued s Keyboard p = unlinked s keyboard_head p
 unqueued s Output p = unlinked s output_head p
 unqueued s Pending p = unlinked s pending_head p
 
--- so many ticks from now on, or at the last tick that there is
+-- the tick that comes so many ticks after this one, or the last tick that there is
 abbrev pub due_tick : ℕ → ℕ → ℕ
 due_tick tick delay = min (tick + delay) (2 ^ 32 - 1)
 
--- that of a packet, of which word 5 has the delay
+-- the tick at which a packet would be due that is sent to the clock now, with its delay in word 5
 abbrev pub due_in : List ℕ → ℕ → ℕ
 due_in s p = due_tick (slice_index s (root_address Tick)) (slice_index s (p + 5))
 

@@ -27,7 +27,7 @@ head_of devices.Clock = clock_head
 head_of devices.Keyboard = keyboard_head
 head_of devices.Output = output_head
 
--- where its queue stands
+-- the place of a device's queue
 abbrev pub place_of : Device → Place
 place_of devices.Clock = Clock
 place_of devices.Keyboard = Keyboard

@@ -16,11 +16,11 @@ is_priority pri = nat_le 1 pri && nat_le pri 10000
 abbrev pub is_taken : Lists → ℕ → ℕ → Bool
 is_taken l id pri = list_any (λ t. (t.priority == pri) && not (t.id == id)) l.tasks
 
--- it is a priority (code 9), which no other task has (code 8)
+-- the tests of a new priority: it is one (code 9), and no other task has it (code 8)
 abbrev pub priority_tests : Lists → ℕ → ℕ → List (Bool × ℕ)
 priority_tests l id pri = (is_priority pri, 9) ∷ (not (is_taken l id pri), 8) ∷ []
 
--- the task that was found stands at its place by the priority, and the others as before
+-- the task that was found is at the place that the priority gives it, and the others are as before
 abbrev pub moved : ℕ → Option Task → List Task → Lists → Lists
 moved pri None others l = l
 moved pri (Some t) others l = with_moved_task pri t others l

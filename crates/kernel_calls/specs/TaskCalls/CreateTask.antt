@@ -22,7 +22,7 @@ use Rattle.kernel_calls.specs.BlockCalls.Getvec.{getvec_tests}
 abbrev pub free_id : Lists → Option ℕ
 free_id l = find (λ i. not (has_task i l.tasks)) (range_with_len 5 (highest_id_of l.version - 4))
 
--- 0 stands for that
+-- the number of the new task: the one that is asked for, or where that is 0 the lowest that is free
 abbrev pub number_of : Lists → ℕ → Option ℕ
 number_of l id = if id == 0 then free_id l else Some id
 
@@ -42,7 +42,7 @@ has_high_globals s m = list_any (λ h. nat_lt most_globals (highest h.words)) (h
 abbrev pub globals_row : List ℕ → List ℕ → List ℕ
 globals_row s modules = with_globals (1000 ∷ replicate 1000 0) 0 (flat_map (globals_in s) modules)
 
--- the words behind its task block: the globals and the stack
+-- the words after its task block: the globals and the stack
 abbrev pub row_behind : List ℕ → List ℕ → ℕ → List ℕ
 row_behind s modules u = globals_row s modules ++ replicate (u + 1) 0
 
@@ -56,7 +56,7 @@ creation_tests s l id modules u pri =
     ++ (is_some (number_of l id), 10) ∷ (not (list_any (has_high_globals s) modules), 18)
     ∷ getvec_tests l (last_word_of l.version u)
 
--- it is dead
+-- the new task, which is dead, and has no packets and no coroutines
 abbrev pub new_task : Lists → ℕ → List ℕ → ℕ → ℕ → ℕ → Task
 new_task l number modules u pri maker =
     record {
@@ -76,7 +76,7 @@ new_task l number modules u pri maker =
       coroutines = no_coroutines;
     }
 
--- it is in the chain, in a block that was taken, of which the words behind its task block are plain
+-- a task is created: it is in the chain, in a block that was taken, of which the words after its task block are plain
 abbrev pub with_created : List ℕ → Lists → Task → Made
 with_created s l t =
     record {

@@ -15,11 +15,11 @@ use Rattle.kernel_calls.specs.CallAnswers.Refusals.{first_refusal}
 use Rattle.kernel_calls.specs.CallAnswers.Tasks.{is_dead}
 use Rattle.kernel_calls.specs.BlockCalls.Freevec.{has_packet_in}
 
--- its work queue is empty
+-- whether the work queue of the task is empty
 abbrev pub has_no_work : Lists → ℕ → Bool
 has_no_work l id = list_any (λ t. (t.id == id) && is_empty_queue t.queue) l.tasks
 
--- it has no coroutines
+-- whether the task has no coroutines
 abbrev pub has_no_coroutines : Lists → ℕ → Bool
 has_no_coroutines l id = list_any (λ t. (t.id == id) && (length t.coroutines.list == 0)) l.tasks
 
@@ -31,7 +31,7 @@ resident_packets t = if is_guest_id t.id then [] else t.queue
 abbrev pub packets_out : Lists → List QueuedPacket
 packets_out l = flat_map resident_packets l.tasks ++ (l.clock ++ (l.keyboard ++ (l.output ++ l.pending)))
 
--- one of them is from the task with the number
+-- whether a resident or a device has a packet of the task with the number
 abbrev pub has_packet_out : Lists → ℕ → Bool
 has_packet_out l id = list_any (λ p. p.sender == id) (packets_out l)
 
@@ -43,7 +43,7 @@ end_tests l id = (is_dead l id, 11) ∷ (has_no_work l id, 12) ∷ (not (has_pac
 abbrev pub deletion_tests : Lists → ℕ → List (Bool × ℕ)
 deletion_tests l id = end_tests l id ++ (not (has_packet_in l (address_of_task l id)), 7) ∷ []
 
--- it is out of the chain, and its block is free
+-- the lists without the task with the number, with its block given back
 abbrev pub without_task : Lists → ℕ → Lists
 without_task l id = with_blocks (given (address_of_task l id) l.blocks) (with_tasks (without_first (λ t. t.id == id) l.tasks) l)
 

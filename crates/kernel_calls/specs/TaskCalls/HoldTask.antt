@@ -7,7 +7,7 @@ use Rattle.kernel_calls.specs.CallAnswers.Guests.{guest_tests}
 use Rattle.kernel_calls.specs.CallAnswers.Made.{Made, done, unless_refused}
 use Rattle.kernel_calls.specs.TaskCalls.OneTask.{is_held}
 
--- it is not held already (code 16)
+-- the tests of the call: the task is a guest (codes 2, 14), and not held already (code 16)
 abbrev pub hold_tests : Lists → ℕ → List (Bool × ℕ)
 hold_tests l id = guest_tests l id ++ (not (is_held l id), 16) ∷ []
 

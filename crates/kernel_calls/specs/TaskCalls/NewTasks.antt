@@ -24,7 +24,7 @@ first_words head t number modules u pri maker =
     0 ∷ number ∷ pri ∷ 0 ∷ dead ∷ 0 ∷ (t + head + 1001) ∷ u ∷ (t + head) ∷ maker ∷ first_of (λ m. m) modules 0
     ∷ 0 ∷ 0 ∷ 0 ∷ 0 ∷ 0 ∷ 0 ∷ 0 ∷ 0 ∷ 0 ∷ 0 ∷ 0 ∷ 0 ∷ []
 
--- all of them: its other modules are the last
+-- all words of a new task's block: those words, and then its other modules
 abbrev pub head_row : ℕ → ℕ → ℕ → List ℕ → ℕ → ℕ → ℕ → List ℕ
 head_row head t number modules u pri maker = first_words head t number modules u pri maker ++ filled (head - 23) (drop 1 modules)
 

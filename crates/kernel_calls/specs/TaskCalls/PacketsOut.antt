@@ -12,19 +12,19 @@ use Rattle.kernel_model.specs.KernelRecord.Task.{is_guest_id, queue_head}
 abbrev pub is_sender_at : List ℕ → ℕ → ℕ → Bool
 is_sender_at s head id = list_any (λ p. slice_index s (p + 1) == id) (queue_at s head)
 
--- one on the work queue of the task at t is, where that is a resident
+-- a packet on the work queue of the task at t is from the task with the number, where the task at t is a resident
 abbrev pub is_sender_to : List ℕ → ℕ → ℕ → Bool
 is_sender_to s id t = if is_guest_id (id_in s t) then false else is_sender_at s (queue_head t) id
 
--- one on the work queue of any resident is
+-- a packet on the work queue of any resident is from the task with the number
 abbrev pub is_sender_to_residents : List ℕ → ℕ → Bool
 is_sender_to_residents s id = list_any (is_sender_to s id) (tasks_in s)
 
--- one that waits for a line is
+-- a read that waits for a line is from the task with the number
 abbrev pub is_sender_of_read : List ℕ → ℕ → Bool
 is_sender_of_read s id = if has_residents s then is_sender_at s pending_head id else false
 
--- one at the clock, the keyboard or the output is
+-- a packet at the clock, the keyboard or the output is from the task with the number
 abbrev pub is_sender_at_device : List ℕ → ℕ → Bool
 is_sender_at_device s id = is_sender_at s clock_head id || (is_sender_at s keyboard_head id || is_sender_at s output_head id)
 

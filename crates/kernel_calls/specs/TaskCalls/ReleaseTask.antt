@@ -7,7 +7,7 @@ use Rattle.kernel_calls.specs.CallAnswers.Guests.{guest_tests}
 use Rattle.kernel_calls.specs.CallAnswers.Made.{Made, done, unless_refused}
 use Rattle.kernel_calls.specs.TaskCalls.OneTask.{is_held}
 
--- it is held (code 15)
+-- the tests of the call: the task is a guest (codes 2, 14), and held (code 15)
 abbrev pub release_tests : Lists → ℕ → List (Bool × ℕ)
 release_tests l id = guest_tests l id ++ (is_held l id, 15) ∷ []
 

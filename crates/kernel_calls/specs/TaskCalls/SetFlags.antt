@@ -6,7 +6,7 @@ use Rattle.kernel_model.specs.KernelRecord.Task.{Task}
 use Rattle.kernel_calls.specs.CallAnswers.Guests.{guest_tests}
 use Rattle.kernel_calls.specs.CallAnswers.Made.{Made, done, unless_refused}
 
--- those that it has stay
+-- a task with these flags besides its own
 abbrev pub flagged : ℕ → Task → Task
 flagged flags t = record t { flags = bit_or t.flags flags }
 

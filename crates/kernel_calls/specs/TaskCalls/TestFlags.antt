@@ -6,11 +6,11 @@ use Rattle.kernel_model.specs.KernelRecord.Lists.{Lists}
 use Rattle.kernel_model.specs.KernelRecord.Task.{Task}
 use Rattle.kernel_calls.specs.CallAnswers.Made.{Made}
 
--- those of the flags that are among these
+-- the flags of the running task that are among these
 abbrev pub flags_among : Lists → ℕ → ℕ
 flags_among l mask = option_map_or (λ t. bit_and t.flags mask) (find (λ t. t.id == l.running) l.tasks) 0
 
--- they are cleared
+-- a task without the flags of the mask
 abbrev pub cleared : ℕ → Task → Task
 cleared mask t = record t { flags = bit_and t.flags (2 ^ 32 - 1 - mask) }
 

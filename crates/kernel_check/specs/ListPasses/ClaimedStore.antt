@@ -4,7 +4,7 @@ use Rattle.kernel_lists.specs.GetvecChain.Tiling.{IsTiled}
 use Rattle.store_claims.specs.AdoptionLaw.Passes.{RootStands}
 use Rattle.store_claims.specs.AdoptionLaw.ClaimableStore.{AreClaimable}
 
--- Root and blocks stand, and the walks have claimed all words.
+-- The rules of the root hold, the blocks tile the store, and the walks have claimed all words.
 pub record IsClaimed (s : List ℕ) : Type 0 where
   -- the root
   pub root : RootStands s

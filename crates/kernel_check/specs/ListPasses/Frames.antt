@@ -19,17 +19,17 @@ pub record HasFrame (s : List ℕ) (c : ℕ) : Type 0 where
   -- the G of that frame, which is its function
   pub frame_g : slice_index s (c + 9) ≡ slice_index s (c + 3)
 
--- its parent, of the task at t
+-- the coroutine at c has the parent that its place among the active coroutines of the task at t gives it
 abbrev pub HasParent : List ℕ → ℕ → ℕ → Type 0
 HasParent s t c = slice_index s (c + 1) ≡ parent_of t (active_in s t) c
 
--- it has none exactly where it is not active
+-- the coroutine at c has no parent exactly where it is not active
 abbrev pub TellsParent : List ℕ → ℕ → ℕ → Type 0
 TellsParent s t c = (slice_index s (c + 1) == 0) ≡ not (has c (active_in s t))
 
--- The coroutines of the task at t stand, and each of them tells whether it is active.
+-- The rules of the coroutines of the task at t hold, and each of them tells whether it is active.
 pub record OwnsCoroutines (s : List ℕ) (t : ℕ) : Type 0 where
-  -- they stand
+  -- the rules of its coroutines hold
   pub stand : CoroutinesStand (lists_in s) (task_in s t)
   -- what each tells
   pub parents : AllByRecursion (TellsParent s t) (coroutines_in s t)

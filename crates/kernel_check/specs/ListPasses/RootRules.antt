@@ -26,7 +26,7 @@ pub record HasRootWords (s : List ℕ) : Type 0 where
   pub zeros : (i : ℕ) → i < 7 → slice_index s (113 + i) ≡ 0
   -- the highest number of a task
   pub highest : slice_index s 120 ≡ highest_id_of (slice_index s 111)
-  -- the entries of the table behind that number's
+  -- the entries of the table after that number's
   pub unused : (i : ℕ) → i < 63 - highest_id_of (slice_index s 111)
       → slice_index s (121 + highest_id_of (slice_index s 111) + i) ≡ 0
   -- the end word

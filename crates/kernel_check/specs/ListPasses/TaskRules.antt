@@ -76,6 +76,6 @@ pub record IsIdle (s : List ℕ) (t : ℕ) : Type 0 where
   -- no registers are saved
   pub saved : (i : ℕ) → 11 ≤ i → i < 17 → slice_index s (t + i) ≡ 0
 
--- behind a word that is 0 each is 0
+-- after a word that is 0 each is 0
 abbrev pub IsDense : List ℕ → Type 0
 IsDense ws = (k : ℕ) → k + 1 < length ws → slice_index ws k ≡ 0 → slice_index ws (k + 1) ≡ 0

@@ -45,12 +45,12 @@ pub record HoldsCoroutines (s : List ℕ) (t : ℕ) (k : TaskCoroutines) : Type 
 
 -- ---- words that are written over
 
--- what stands at the addresses of these pairs
+-- what is at the addresses of these pairs
 abbrev pub standing : List ℕ → Pairs → Pairs
 standing s [] = []
 standing s (e ∷ es) = (e.0, slice_index s e.0) ∷ standing s es
 
--- the words that stand there are exchanged for these new ones, which are written
+-- the words that are there are exchanged for these new ones, which are written
 pub record Rewrites (s v : List ℕ) (before after new : Pairs) : Type 0 where
   -- these words come in the place of those at their addresses
   pub exchange : Exchange before after (standing s new) new
@@ -63,7 +63,7 @@ pub record Rewrites (s v : List ℕ) (before after new : Pairs) : Type 0 where
 abbrev pub with_frame : ℕ → ℕ → ℕ → Coroutine → Coroutine
 with_frame c p pc x = record x { saved_p = if x.address == c then p else x.saved_p; saved_pc = if x.address == c then pc else x.saved_pc }
 
--- they are saved in the current one, or as the root's
+-- the task's coroutines with P and PC saved in the current one, or as the root's
 abbrev pub with_saved : ℕ → ℕ → TaskCoroutines → TaskCoroutines
 with_saved p pc k =
     record k {
@@ -149,7 +149,7 @@ pub record CreateExchange (s v : List ℕ) (t : ℕ) (k : TaskCoroutines) (c ent
   -- its words alone are written
   pub writes : v ≡ written (created_words t k c entry u) taken
 
--- the word that leads on behind these coroutines
+-- the word that leads on after these coroutines
 abbrev pub link_behind : ℕ → List Coroutine → ℕ
 link_behind t front = last_cell (λ x. coroutine_link x.address) (first_coroutine t) front
 
@@ -170,7 +170,7 @@ pub record DeleteExchange (s v : List ℕ) (t : ℕ) (k : TaskCoroutines) (front
   pub same_blocks : blocks_in unlinked ≡ blocks_in s
   -- where its block begins
   pub start : ℕ
-  -- it stands behind the block's size word
+  -- it comes after the block's size word
   pub here : x.address ≡ start + 1
   -- what giving the block back exchanges
   pub block : GiveExchange unlinked v (used_block start (need x.highest))

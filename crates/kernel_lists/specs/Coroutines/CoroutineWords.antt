@@ -41,7 +41,7 @@ highest_in s c = slice_index s (c + 4)
 abbrev pub saved_p : ℕ → ℕ → ℕ
 saved_p t c = if c == 0 then t + word_index RootP else c
 
--- where its PC is kept
+-- where the PC of a coroutine is kept, or that of the root of the task at t, which 0 names
 abbrev pub saved_pc : ℕ → ℕ → ℕ
 saved_pc t c = if c == 0 then t + word_index RootPc else c + 6
 

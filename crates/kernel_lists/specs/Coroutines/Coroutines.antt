@@ -17,7 +17,7 @@ use Rattle.kernel_lists.specs.Coroutines.CoroutineWords.{coroutine_size, current
 pub record HasBlock (s : List ℕ) (c : ℕ) : Type 0 where
   -- where its block begins
   pub start : ℕ
-  -- it stands behind the block's size word
+  -- it comes after the block's size word
   pub here : c ≡ start + 1
   -- the block has the words that its stack needs
   pub block : used_at c (blocks_in s) ≡ Some (used_block start (need (highest_in s c)))
@@ -37,7 +37,7 @@ pub record HasTaskBlock (s : List ℕ) (t : ℕ) : Type 0 where
   -- they end in it
   pub high : t + task_size t ≤ block_end block
 
--- the coroutines of the task at t stand
+-- there is the list of the coroutines of the task at t
 pub record HasCoroutines (s : List ℕ) (t : ℕ) : Type 0 where
   -- the store is tiled by blocks
   pub tiled : IsTiled s

@@ -45,11 +45,11 @@ coroutine_words t act c link =
     row_from c.address 0
     (c.saved_p ∷ parent_of t act c.address ∷ link ∷ c.function ∷ c.highest ∷ c.address ∷ c.saved_pc ∷ 0 ∷ 0 ∷ c.function ∷ [])
 
--- it is alone in its block
+-- the coroutine is alone in its block
 pub record HasCoroutineBlock (s : List ℕ) (c : Coroutine) : Type 0 where
   -- where its block begins
   pub start : ℕ
-  -- it stands behind the block's size word
+  -- it comes after the block's size word
   pub here : c.address ≡ start + 1
   -- the block has the words that its stack needs
   pub block : used_at c.address (blocks_in s) ≡ Some (used_block start (need c.highest))

@@ -47,7 +47,7 @@ abbrev pub BeginsUsed : List Block → Type 0
 BeginsUsed [] = Unit {0}
 BeginsUsed (b ∷ bs) = b.free ≡ false
 
--- free blocks that fill the words from start to end, with no free block directly before them or behind them
+-- free blocks that fill the words from start to end, with no free block directly before them or after them
 pub record IsMaximalRun (bs : List Block) (run : Run) : Type 0 where
   -- the blocks before it
   pub before : List Block
@@ -61,7 +61,7 @@ pub record IsMaximalRun (bs : List Block) (run : Run) : Type 0 where
   pub are_free : AreFree free
   -- they fill it
   pub fills : Follow run.start free run.end
-  -- no free block stands just before it
+  -- no free block is just before it
   pub used_before : EndsUsed before
   -- and none just after it
   pub used_after : BeginsUsed after

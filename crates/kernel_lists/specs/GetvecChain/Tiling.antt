@@ -12,7 +12,7 @@ pub record StandsIn (s : List ℕ) (b : Block) : Type 0 where
   -- it has an even number of them
   pub even : b.size % 2 ≡ 0
 
--- from the address on the blocks stand without a gap up to the end word, which is 0 and the store's last word but one
+-- from the address on the blocks follow one another without a gap up to the end word, which is 0 and the store's last word but one
 abbrev pub Tiles : List ℕ → ℕ → List Block → Type 0
 Tiles s at [] = (at + 2 ≡ length s) × (slice_index s at ≡ 0)
 Tiles s at (b ∷ bs) = (b.start ≡ at) × StandsIn s b × Tiles s (block_end b) bs
@@ -29,7 +29,7 @@ first_blocks (suc n) s at =
     if slice_index s at == 0 then [] else
     block_of_word at (slice_index s at) ∷ first_blocks n s (block_end (block_of_word at (slice_index s at)))
 
--- all of them, which are no more than the store has words
+-- the blocks from an address on, which are no more than the store has words
 abbrev pub blocks_from : List ℕ → ℕ → List Block
 blocks_from s at = first_blocks (length s) s at
 

@@ -1,4 +1,4 @@
--- What stands in a text from a place on, while a module is read from it.
+-- What is in a text from a place on, while a module is read from it.
 use Rattle.std.specs.Prelude.{◌≡◌, ◌≢◌, ◌<◌, ℕ, ◌+◌, List, [], ◌∷◌, ◌++◌, length, map}
 use Rattle.std.specs.List.{AllByRecursion}
 use Rattle.module_text.specs.ModuleForm.{IsHunk, IsModule, relocation_items, relocation_type}
@@ -7,7 +7,7 @@ use Rattle.module_text.specs.declared.modules.Hunk.{Hunk}
 use Rattle.module_text.specs.declared.modules.Module.{Module}
 use Rattle.kernel_lists.specs.HunkLoader.ModuleRow.{last_word}
 
--- from the place on stand as many words as there are addresses from `at` up to `end`, and then others
+-- from the place on there are as many words as there are addresses from `at` up to `end`, and then others
 pub record WordsFollow (text : List ℕ) (place at end : ℕ) (words others : List ℕ) : Type 0 where
   -- these words follow in the text
   pub reads : Reads text place (words ++ others)
@@ -22,24 +22,24 @@ places base offsets = map (λ o. base + o) offsets
 abbrev pub AreInside : List ℕ → List ℕ → Type 0
 AreInside s addresses = AllByRecursion (λ a. a < length s) addresses
 
--- from the place on stand the number of these offsets and the offsets, and then other words
+-- from the place on there is the number of these offsets, and then the offsets and other words
 pub record OffsetsFollow (text : List ℕ) (place : ℕ) (offsets others : List ℕ) : Type 0 where
   -- the number of the offsets and they follow in the text
   pub reads : Reads text place (length offsets ∷ offsets ++ others)
 
--- some word stands first, and no relocation list begins there
+-- some word comes first, and no relocation list begins there
 abbrev pub BeginsOther : List ℕ → Type 0
 BeginsOther [] = ⊥
 BeginsOther (w ∷ ws) = w ≢ relocation_type
 
--- from the place on stand these relocation lists, and then another item or the end word
+-- from the place on there are these relocation lists, and then another item or the end word
 pub record ListsFollow (text : List ℕ) (place : ℕ) (lists : List (List ℕ)) (others : List ℕ) : Type 0 where
   -- the relocation lists follow in the text
   pub reads : Reads text place (relocation_items lists ++ others)
   -- no further one does
   pub other : BeginsOther others
 
--- from the place on stand a hunk and its relocation lists, and then another hunk or the end word
+-- from the place on there is a hunk with its relocation lists, and then another hunk or the end word
 pub record HunkFollows (text : List ℕ) (place : ℕ) (h : Hunk) (others : List ℕ) : Type 0 where
   -- the words of the hunk's items
   pub front : List ℕ

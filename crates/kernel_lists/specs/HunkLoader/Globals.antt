@@ -39,7 +39,7 @@ globals_of_pairs base (offset ∷ []) = []
 globals_of_pairs base (offset ∷ number ∷ before) =
     if offset == 0 then [] else global_of_number number (add (mul 4 base) offset) ++ globals_of_pairs base before
 
--- the pairs stand before the highest number; where that is 0, or there are no words, there are none
+-- the pairs come before the highest number; where that is 0, or there are no words, there are none
 abbrev pub globals_back : ℕ → List ℕ → List Global
 globals_back base [] = []
 globals_back base (top ∷ before) = if top == 0 then [] else globals_of_pairs base before

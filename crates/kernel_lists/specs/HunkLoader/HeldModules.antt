@@ -19,11 +19,11 @@ pub record LoadedModule : Type 0 where
 abbrev pub module_address : LoadedModule → ℕ
 module_address m = m.address
 
--- its link, its number of hunks, and their lengths
+-- the words that a module owns: its link, its number of hunks, and their lengths
 abbrev pub module_words : LoadedModule → ℕ → Pairs
 module_words m link = (m.address, link) ∷ row_from m.address 1 (length m.lengths ∷ m.lengths)
 
--- it has a block of its size
+-- the module has a block of its size
 pub record HasModuleBlock (s : List ℕ) (m : LoadedModule) : Type 0 where
   -- the block
   pub block : Block

@@ -55,7 +55,7 @@ pub record LoadExchange (s t text : List ℕ) (ms : List LoadedModule) (m : ℕ)
   -- its words alone are written
   pub writes : t ≡ written (loaded_words m found.hunks ms ++ hunk_words m found.hunks) taken
 
--- the word that leads on behind these modules
+-- the word that leads on after these modules
 abbrev pub link_behind : List LoadedModule → ℕ
 link_behind front = last_cell module_address first_module front
 
@@ -76,7 +76,7 @@ pub record UnloadExchange (s t : List ℕ) (front : List LoadedModule) (m : Load
   pub same_blocks : blocks_in unlinked ≡ blocks_in s
   -- its block
   pub block : Block
-  -- it stands behind the block's size word
+  -- it comes after the block's size word
   pub here : m.address ≡ block.start + 1
   -- the block has the words that it needs
   pub size : block.size ≡ need (1 + length m.lengths + sum m.lengths)

@@ -1,11 +1,11 @@
--- The hunks of a module, as they stand in a store.
+-- The hunks of a module, as they are in a store.
 use Rattle.std.specs.Prelude.{ℕ, ◌+◌, List, [], ◌∷◌, slice_index, slice_range, sum}
 
 -- a hunk's address and its words
 pub record PlacedHunk : Type 0 where
   -- the address of its first word
   pub base : ℕ
-  -- its words, as they stand there
+  -- its words, as they are there
   pub words : List ℕ
 
 -- the hunk with these words, from an address on
@@ -20,7 +20,7 @@ hunk_count s m = slice_index s (m + 1)
 abbrev pub lengths_in : List ℕ → ℕ → List ℕ
 lengths_in s m = slice_range s (m + 2) (m + 2 + hunk_count s m)
 
--- the address behind the module's last word
+-- the address after the module's last word
 abbrev pub module_end : List ℕ → ℕ → ℕ
 module_end s m = m + 2 + hunk_count s m + sum (lengths_in s m)
 

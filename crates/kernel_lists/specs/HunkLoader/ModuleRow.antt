@@ -1,4 +1,4 @@
--- A module as it stands in a store.
+-- A module as it is in a store.
 use Rattle.std.specs.Prelude.{ℕ, ◌+◌, List, [], ◌∷◌, ◌++◌, length, map}
 use Rattle.module_text.specs.Shapes.{words_in}
 use Rattle.module_text.specs.declared.modules.Hunk.{Hunk}
@@ -8,7 +8,7 @@ use Rattle.kernel_lists.specs.HunkLoader.RelocatedWords.{relocated}
 abbrev pub lengths_of : List Hunk → List ℕ
 lengths_of hunks = map (λ h. length h.words) hunks
 
--- the words of the hunks, of which the first stands at the base, one after the other and relocated
+-- the words of the hunks, of which the first is at the base, one after the other and relocated
 abbrev pub hunks_image : ℕ → List Hunk → List ℕ
 hunks_image base [] = []
 hunks_image base (h ∷ hs) = relocated base h.words h.relocations ++ hunks_image (base + length h.words) hs

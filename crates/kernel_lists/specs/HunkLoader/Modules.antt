@@ -19,14 +19,14 @@ pub record IsModuleAt (s : List ℕ) (m : ℕ) : Type 0 where
   -- it has the words that the module needs
   pub size : block.size ≡ need (1 + hunk_count s m + sum (lengths_in s m))
 
--- blocks and modules stand: the words from 200 on tile, the links from the head on lead through modules, and none of them
--- stands twice in the list
+-- blocks and modules are in order: the words from 200 on tile, the links from the head on lead through modules, and none of them
+-- is twice in the list
 pub record HasModules (s : List ℕ) : Type 0 where
   -- the store is tiled by blocks
   pub tiled : IsTiled s
   -- the links lead through the modules to an end
   pub chain : IsChain s module_link first_module (modules_in s)
-  -- each stands in a block of its own
+  -- each is in a block of its own
   pub modules : AllByRecursion (IsModuleAt s) (modules_in s)
   -- none is there twice
   pub apart : IsApart (modules_in s)

@@ -2,7 +2,7 @@
 use Rattle.std.specs.Prelude.{◌≡◌, ◌≢◌, ℕ, List, length, slice_index}
 use Rattle.word_store.specs.Count.{node_words, times}
 
--- p stands behind the cell, and leads where the cell led
+-- p comes after the cell, and leads where the cell led
 pub record InsertedAt (s t : List ℕ) (link size : ℕ → ℕ) (cell p : ℕ) : Type 0 where
   -- the store has as many words
   pub same_length : length t ≡ length s

@@ -26,13 +26,13 @@ pub record IsLinked (s : List ℕ) (link size : ℕ → ℕ) (head : ℕ) (ps : 
   -- no word is of two nodes, or of a node and the head
   pub apart : IsApart (head ∷ words_of size ps)
 
--- a linked list stands at the head
+-- there is a linked list at the head
 abbrev pub HasList : List ℕ → (ℕ → ℕ) → (ℕ → ℕ) → ℕ → Type 0
 HasList s link size head = IsLinked s link size head (list_at s link head)
 
--- and it is this one
+-- the linked list at the head is this one
 pub record IsListAt (s : List ℕ) (link size : ℕ → ℕ) (head : ℕ) (ps : List ℕ) : Type 0 where
-  -- a list stands there
+  -- there is a list at the head
   pub stands : HasList s link size head
   -- it is this one
   pub list : list_at s link head ≡ ps

@@ -20,7 +20,7 @@ abbrev pub without_first : {X : Type 0} → (X → Bool) → List X → List X
 without_first f [] = []
 without_first f (q ∷ qs) = if f q then qs else q ∷ without_first f qs
 
--- the list without p, which stands once at most
+-- the list without p, which is there once at most
 abbrev pub without : ℕ → List ℕ → List ℕ
 without p ps = without_first (λ q. p == q) ps
 
@@ -33,7 +33,7 @@ abbrev pub cell_before : (ℕ → ℕ) → ℕ → ℕ → List ℕ → ℕ
 cell_before link p at [] = at
 cell_before link p at (q ∷ qs) = if p == q then at else cell_before link p (link q) qs
 
--- the store with p linked behind the word at `cell`
+-- the store with p linked after the word at `cell`
 abbrev pub linked_in : List ℕ → (ℕ → ℕ) → ℕ → ℕ → List ℕ
 linked_in s link cell p = slice_set (slice_set s (link p) (slice_index s cell)) cell p
 

@@ -15,7 +15,7 @@ pub record Splits (whole rest part : Pairs) : Type 0 where
 pub record Exchange (before after old new : Pairs) : Type 0 where
   -- what stays
   pub rest : Pairs
-  -- before, it stands beside what goes
+  -- before, it is beside what goes
   pub first : Splits before rest old
   -- and after, beside what comes
   pub then' : Splits after rest new

@@ -19,7 +19,7 @@ linked_words address words (x ∷ xs) end = words x (first_of address xs end) ++
 abbrev pub headed_words : {X : Type 0} → (X → ℕ) → (X → ℕ → Pairs) → ℕ → List X → ℕ → Pairs
 headed_words address words head xs end = (head, first_of address xs end) ∷ linked_words address words xs end
 
--- a thing's link stands at its cell, and its other words do not depend on it
+-- a thing's link is at its cell, and its other words do not depend on it
 abbrev pub LinksAt : {X : Type 0} → (X → ℕ) → (X → ℕ → Pairs) → Type 0
 LinksAt {X} cell words = (x : X) (n m : ℕ) → Exchange (words x n) (words x m) ((cell x, n) ∷ []) ((cell x, m) ∷ [])
 

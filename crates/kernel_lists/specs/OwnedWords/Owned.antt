@@ -1,4 +1,4 @@
--- Owned words: pairs of an address and the word that stands there.
+-- Owned words: pairs of an address and the word that is there.
 use Rattle.std.specs.Prelude.{◌≡◌, ℕ, suc, ◌+◌, ◌<◌, ◌≤◌, ◌==◌, if◌then◌else◌, Option, Some, None, List, [], ◌∷◌, length, slice_index, slice_set}
 use Rattle.word_store.specs.Count.{hit}
 
@@ -11,7 +11,7 @@ abbrev pub owners : ℕ → Pairs → ℕ
 owners a [] = 0
 owners a (e ∷ es) = hit a e.0 + owners a es
 
--- each pair's word stands at its address
+-- each pair's word is at its address
 abbrev pub Holds : List ℕ → Pairs → Type 0
 Holds s [] = Unit {0}
 Holds s (e ∷ es) = (slice_index s e.0 ≡ e.1) × Holds s es
@@ -24,7 +24,7 @@ AreApart es = (a : ℕ) → owners a es ≤ 1
 abbrev pub AreInside : List ℕ → Pairs → Type 0
 AreInside s es = (a : ℕ) → 0 < owners a es → a < length s
 
--- the words of what stands at an address, from its word i on
+-- the words of what is at an address, from its word i on
 abbrev pub row_from : ℕ → ℕ → List ℕ → Pairs
 row_from a i [] = []
 row_from a i (w ∷ ws) = (a + i, w) ∷ row_from a (suc i) ws

@@ -4,7 +4,7 @@ use Rattle.kernel_lists.specs.OwnedWords.Owned.{AreApart, AreInside, Holds, Pair
 use Rattle.kernel_lists.specs.OwnedWords.Exchange.{Exchange, Splits}
 
 -- Where a store holds the words that are owned before, the words `new` are written for `old`, the words `kept` come to be
--- owned as they stand, and the words `plain` are written besides, which nobody owns afterwards.
+-- owned as they are, and the words `plain` are written besides, which nobody owns afterwards.
 pub record Writes (s : List ℕ) (before after old new kept plain : Pairs) : Type 0 where
   -- the store holds what is owned before
   pub holds : Holds s before
@@ -19,7 +19,8 @@ pub record Writes (s : List ℕ) (before after old new kept plain : Pairs) : Typ
   -- nobody owns the plain words after
   pub unowned : (a : ℕ) → 0 < owners a plain → owners a after ≡ 0
 
--- then the store holds what is owned afterwards, and only the plain words that were written have changed besides
+-- after a call has written its words, the store holds what is owned then, and only the plain words that were written have changed
+-- besides
 pub record IsWritten (s t : List ℕ) (after plain : Pairs) : Type 0 where
   -- the store holds what is owned after
   pub holds : Holds t after
@@ -38,7 +39,7 @@ pub record OrderedWrites (s : List ℕ) (before after old new kept plain all : P
   -- the plain words lie in the store
   pub plain_inside : AreInside s plain
 
--- The same of any store t, however it came about, also where a word was written twice: the new words stand in it, and each
+-- The same of any store t, however it came about, also where a word was written twice: the new words are in it, and each
 -- other word is as it was, or as it was written besides.
 pub record StandsWritten (s t : List ℕ) (before after old new plain : Pairs) : Type 0 where
   -- the store holds what is owned before

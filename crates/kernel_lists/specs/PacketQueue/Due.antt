@@ -23,6 +23,6 @@ due_at s head tick = filter (λ p. due_of s p == tick) (queue_at s head)
 abbrev pub last_due_link : List ℕ → ℕ → ℕ → ℕ
 last_due_link s head tick = cell_after (is_due s tick) link_of head (queue_at s head)
 
--- the store in which the packet, due at this tick, stands directly after the last one that is due no later
+-- the store in which the packet, due at this tick, comes directly after the last one that is due no later
 abbrev pub with_due : List ℕ → ℕ → ℕ → ℕ → List ℕ
 with_due s head p due = slice_set (linked_in s link_of (last_due_link s head due) p) (due_word p) due

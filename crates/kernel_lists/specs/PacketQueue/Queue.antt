@@ -17,7 +17,7 @@ packet_size p = 5
 abbrev pub queue_at : List ℕ → ℕ → List ℕ
 queue_at s head = list_at s link_of head
 
--- a queue stands at the head: its packets lie in the store, none at 0, and their words meet neither the head nor one another
+-- there is a queue at the head: its packets lie in the store, none at 0, and their words meet neither the head nor one another
 abbrev pub HasQueue : List ℕ → ℕ → Type 0
 HasQueue s head = HasList s link_of packet_size head
 

@@ -1,4 +1,4 @@
--- The words of queued packets, as pairs of an address and the word that stands there.
+-- The words of queued packets, as pairs of an address and the word that is there.
 use Rattle.std.specs.Prelude.{◌≡◌, ◌<◌, ℕ, List, [], ◌∷◌, ◌++◌, nat_le}
 use Rattle.std.specs.List.{AllByRecursion}
 use Rattle.kernel_lists.specs.LinkedList.Chain.{last_cell}
@@ -26,11 +26,11 @@ pub record QueuedPacket : Type 0 where
 abbrev pub address_of : QueuedPacket → ℕ
 address_of p = p.address
 
--- its words 1 to 4
+-- the words 1 to 4 of a packet
 abbrev pub other_words : QueuedPacket → Pairs
 other_words p = row_from p.address 1 (p.sender ∷ p.kind ∷ p.res1 ∷ p.last ∷ [])
 
--- its words, with this link
+-- the words of a packet, with this link
 abbrev pub packet_words : QueuedPacket → ℕ → Pairs
 packet_words p link = (p.address, link) ∷ other_words p
 
@@ -87,7 +87,7 @@ pub record DueExchange (s t : List ℕ) (head : ℕ) (ps : List QueuedPacket) (p
   pub back : List QueuedPacket
   -- these are the packets of the queue
   pub is : ps ≡ front ++ back
-  -- it stands behind all that are due no later
+  -- it comes after all that are due no later
   pub becomes : insert_after (λ q. nat_le q.last p.last) p ps ≡ front ++ p ∷ back
   -- what it exchanges there
   pub words : QueueExchange s t (queue_words head (front ++ back)) (queue_words head (front ++ p ∷ back))

@@ -53,7 +53,7 @@ pub record InsertExchange {X : Type 0} (address id priority : X → ℕ) (words 
   pub back : List X
   -- these are the tasks of the chain
   pub is : xs ≡ front ++ back
-  -- it stands behind all of higher priority
+  -- it comes after all of higher priority
   pub becomes : insert_after (λ y. nat_lt (priority x) (priority y)) x xs ≡ front ++ x ∷ back
   -- what it exchanges there
   pub exchange : Exchange

@@ -42,9 +42,9 @@ pub record HeldTasks {X : Type 0} (address id : X → ℕ) (words : X → ℕ �
   -- the table has the address of the task with each number, or 0
   pub table : (i : ℕ) → 1 ≤ i → i ≤ highest_id s → slice_index s (table_entry i) ≡ address_with address id xs i
 
--- then they are the tasks of its chain
+-- the tasks of the store's chain are these
 pub record HasTheseTasks (s : List ℕ) (ts : List ℕ) : Type 0 where
-  -- the tasks of the store stand
+  -- there are the chain and the table of the store's tasks
   pub tasks : HasTasks s
   -- they are these, in the order of the chain
   pub chain : tasks_in s ≡ ts

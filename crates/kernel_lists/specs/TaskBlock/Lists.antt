@@ -21,6 +21,6 @@ coroutine_link c = c + 2
 abbrev pub first_coroutine : ℕ → ℕ
 first_coroutine t = t + word_index FirstCo
 
--- these coroutines, the newest first
+-- the coroutines of the task at t, the newest first
 abbrev pub coroutines_in : List ℕ → ℕ → List ℕ
 coroutines_in s t = list_at s coroutine_link (first_coroutine t)

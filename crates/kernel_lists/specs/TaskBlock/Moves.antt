@@ -7,11 +7,11 @@ use Rattle.kernel_lists.specs.TaskBlock.TaskChain.{Fall, HasTasks, IsNewPriority
 use Rattle.kernel_lists.specs.TaskBlock.TaskWords.{word_index}
 use Rattle.kernel_lists.specs.declared.task_block.fields.TcbField.TheVariants.{Pri}
 
--- the word behind which the task at t comes in: the link of the last task of a higher priority, or the head
+-- the word after which the task at t comes in: the link of the last task of a higher priority, or the head
 abbrev pub link_above : List ℕ → ℕ → ℕ
 link_above s t = cell_after (is_above s t) task_link first_task (tasks_in s)
 
--- the store in which the task at t has come in: it is linked behind that word, and its entry leads to it
+-- the store in which the task at t has come in: it is linked after that word, and its entry leads to it
 abbrev pub with_task : List ℕ → ℕ → List ℕ
 with_task s t = slice_set (linked_in s task_link (link_above s t) t) (table_entry (id_in s t)) t
 
@@ -29,7 +29,7 @@ pub record StaysNew (s v : List ℕ) (t : ℕ) : Type 0 where
   pub chain : tasks_in v ≡ tasks_in s
   -- so are the words of the tasks in it
   pub words : (j : ℕ) → j < 23 → AllByRecursion (λ u. slice_index v (u + j) ≡ slice_index s (u + j)) (tasks_in s)
-  -- they stand
+  -- the chain is one, and the table agrees with it
   pub tasks : HasTasks v
   -- the task is not in the chain
   pub task : IsNewTask v t
@@ -40,7 +40,7 @@ pub record StaysNew (s v : List ℕ) (t : ℕ) : Type 0 where
 pub record HasNewPriority (s v : List ℕ) (t pri : ℕ) : Type 0 where
   -- the task is out of the chain
   pub chain : tasks_in v ≡ without t (tasks_in s)
-  -- the others stand
+  -- the others are a chain, and the table agrees with it
   pub tasks : HasTasks v
   -- the task may come in again
   pub task : IsNewTask v t

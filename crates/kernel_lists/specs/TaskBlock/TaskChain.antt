@@ -25,7 +25,7 @@ tasks_in s = list_at s task_link first_task
 abbrev pub id_in : List ℕ → ℕ → ℕ
 id_in s t = slice_index s (t + word_index Id)
 
--- its priority
+-- the priority of the task at t
 abbrev pub priority_in : List ℕ → ℕ → ℕ
 priority_in s t = slice_index s (t + word_index Pri)
 
@@ -46,7 +46,7 @@ pub record IsInTable (s : List ℕ) (t : ℕ) : Type 0 where
   -- the table has its address
   pub entry : slice_index s (table_entry (id_in s t)) ≡ t
 
--- the chain stands, apart from the root and the table, and the table agrees with it
+-- there is the chain, apart from the root and the table, and the table agrees with it
 pub record HasTasks (s : List ℕ) : Type 0 where
   -- the store has the words of the root
   pub root : 184 ≤ length s

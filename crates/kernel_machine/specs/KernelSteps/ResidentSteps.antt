@@ -49,7 +49,7 @@ reporter_step k = after_resident (fault_turn (image k) k.lists) k
 abbrev pub console_parts : Kernel → Progress
 console_parts k = all_parts (awaited k.shell.mode) (begun (image k) k.lists k.console k.shell.line)
 
--- its line, and the line that it hands to the shell
+-- the machine with the console's line, and with the line that it hands to the shell
 abbrev pub with_console_lines : Progress → Kernel → Kernel
 with_console_lines g k = record k { console = g.console; shell = record k.shell { line = g.command } }
 

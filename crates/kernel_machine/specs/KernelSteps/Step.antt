@@ -78,7 +78,7 @@ unless_stopped rest k = if is_some k.stop then quietly k else rest k
 abbrev pub after_the_turn : Kernel → Stepped
 after_the_turn k = and_then (devices k) dispatch
 
--- one more step is counted
+-- the machine with one more step counted
 abbrev pub with_step : Kernel → Kernel
 with_step k = record k { steps = k.steps + 1 }
 

@@ -18,7 +18,7 @@ pub record Stepped : Type 0 where
 abbrev pub quietly : Kernel → Stepped
 quietly k = record { kernel = k; bytes = []; events = [] }
 
--- these bytes and events come before those of the rest
+-- what steps come to, with the bytes and the events of those before them
 abbrev pub behind : List ℕ → List KernelEvent → Stepped → Stepped
 behind bytes events x = record x { bytes = bytes ++ x.bytes; events = events ++ x.events }
 

@@ -10,7 +10,7 @@ use Rattle.kernel_machine.specs.declared.running_machine.parts.Parts.{Parts}
 use Rattle.kernel_machine.specs.RunningMachine.Script.{still_to_come}
 use Rattle.kernel_machine.specs.RunningMachine.RepresentedKernels.{RepresentsKernel}
 
--- its kernel, all keys of its script, and the bytes of its last step
+-- What contracts see of a machine: its kernel, all keys of its script, and the bytes of its last step.
 pub record MachineView : Type 0 where
   -- its kernel
   pub kernel : Kernel

@@ -110,7 +110,7 @@ is_ready_state w = not (is_held_state w) && (nat_lt (w % 8) 4 || (w % 2 == 1))
 abbrev pub is_ready_in : List ℕ → ℕ → Bool
 is_ready_in s t = is_ready_state (state_of s t)
 
--- it is the task that ran, and runs
+-- whether the first ready task is the one that ran, and still runs
 abbrev pub goes_on_in : List ℕ → Option ℕ → Bool
 goes_on_in s None = false
 goes_on_in s (Some t) = (running_in s == t) && nat_lt (state_of s t) 4

@@ -11,5 +11,5 @@ pub record HoldsLists (s : List ℕ) (l : Lists) : Type 0 where
   pub valid : AreValid l
   -- the store has as many words as they say
   pub size : length s ≡ l.size
-  -- and each owned word stands in it
+  -- and each owned word is in it
   pub holds : Holds s (owned l)

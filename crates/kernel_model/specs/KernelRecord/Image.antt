@@ -1,4 +1,4 @@
--- The store that a kernel stands for: each word is the one that the lists assign, else the plain word.
+-- The store that represents a kernel: each word is the one that the lists assign, else the plain word.
 use Rattle.std.specs.Prelude.{◌≡◌, ℕ, ◌<◌, Option, Some, None, List, is_some, length, map, slice_index, slice_index_or, unwrap_or, if◌then◌else◌}
 use Rattle.std.specs.List.{range_with_len}
 use Rattle.kernel_lists.specs.OwnedWords.Owned.{Holds, Pairs, owners, word_in, written}

@@ -30,7 +30,7 @@ pub record Shell : Type 0 where
   -- the bytes of the line that the console has handed over, at most 120
   pub line : List ℕ
 
--- it has done nothing yet
+-- the shell before it has done anything
 abbrev pub no_command : Shell
 no_command = record { mode = Prompt; line = [] }
 
@@ -47,7 +47,7 @@ pub record Pipe : Type 0 where
   -- whether that end was ever opened
   pub written : Bool
 
--- The plain words stand by their addresses, and there is none at an address that is owned. The pipes stand in eight places.
+-- The plain words are in the order of their addresses, and there is none at an address that is owned. The pipes have eight places.
 pub record Kernel : Type 0 where
   -- the lists, from which the words that it owns follow
   pub lists : Lists

@@ -16,7 +16,7 @@ use Rattle.kernel_model.specs.KernelRecord.Owned.{clock_head, keyboard_head, out
 use Rattle.kernel_model.specs.KernelRecord.Residents.{fault_packet, pending_head}
 use Rattle.kernel_model.specs.KernelRecord.Task.{is_guest_id, queue_head}
 
--- so many words from an address on
+-- a range: so many words from an address on
 pub record Words : Type 0 where
   -- the address of the first
   pub first : ℕ
@@ -27,7 +27,7 @@ pub record Words : Type 0 where
 abbrev pub words : ℕ → ℕ → Words
 words first count = record { first = first; count = count }
 
--- one of the words from a on, up to before b, is one of them
+-- whether one of the words from a on, up to before b, is one of the range
 abbrev pub meets : ℕ → ℕ → Words → Bool
 meets a b w = nat_lt a b && nat_lt 0 w.count && nat_lt w.first b && nat_lt a (w.first + w.count)
 
@@ -128,7 +128,7 @@ pub record CanWalkTask (s : List ℕ) (t : ℕ) : Type 0 where
   -- its coroutines
   pub coroutines : CanWalk s coroutine_link (first_coroutine t)
 
--- its first words, and its link, lie in the store
+-- the words of a module before its hunks lie in the store
 abbrev pub IsModuleIn : List ℕ → ℕ → Type 0
 IsModuleIn s m = m + 2 + hunk_count s m ≤ length s
 

@@ -1,4 +1,4 @@
--- The words that the kernel owns, each with what stands there.
+-- The words that the kernel owns, each with what is there.
 use Rattle.std.specs.Prelude.{ℕ, ◌<◌, ◌++◌}
 use Rattle.kernel_lists.specs.OwnedWords.Owned.{AreApart, Pairs, owners}
 use Rattle.kernel_lists.specs.GetvecChain.BlockWords.{blocks_words}

@@ -11,7 +11,7 @@ use Rattle.kernel_model.specs.KernelRecord.Owned.{clock_head, keyboard_head, out
 use Rattle.kernel_model.specs.KernelRecord.Residents.{pending_head}
 use Rattle.kernel_model.specs.KernelRecord.Task.{queue_head, task_address, task_id, task_words}
 
--- Each list stands in the store, and is the kernel's.
+-- Each list is in the store, and is the kernel's.
 pub record ReadsLists (s : List ℕ) (l : Lists) : Type 0 where
   -- the blocks follow one another up to the end word
   pub tiled : IsTiled s

@@ -64,7 +64,7 @@ coroutines_of s t = record {
   root_pc = field_in s t RootPc;
 }
 
--- the words that have a guest's modules after the first: those behind word 22 of its task block
+-- the words that have a guest's modules after the first: those after word 22 of its task block
 abbrev pub further_words : List ℕ → ℕ → List ℕ
 further_words s t = if is_guest_id (id_in s t) then slice_range s (t + 23) (t + head_words s) else []
 

@@ -8,7 +8,7 @@ use Rattle.kernel_model.specs.KernelRecord.Lists.{Lists}
 use Rattle.kernel_model.specs.KernelRecord.Task.{filled}
 use Rattle.kernel_model.specs.KernelRecord.Versions.{highest_id_of}
 
--- the data of the resident block begin behind its size word
+-- the data of the resident block begin after its size word
 abbrev pub resident_data : Bool → ℕ
 resident_data residents = if residents then 201 else 0
 
@@ -16,7 +16,7 @@ resident_data residents = if residents then 201 else 0
 abbrev pub number_words : Lists → List ℕ
 number_words l = l.tick ∷ l.size ∷ l.period ∷ l.version ∷ resident_data l.residents ∷ filled 7 []
 
--- the entries of the task table behind that of the highest number
+-- the entries of the task table after that of the highest number
 abbrev pub unused_entries : ℕ → Pairs
 unused_entries version = row_from (table_entry 0) (highest_id_of version + 1) (filled (63 - highest_id_of version) [])
 

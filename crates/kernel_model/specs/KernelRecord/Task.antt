@@ -82,28 +82,28 @@ state_word t = t.field + queue_bit t.queue + (if t.held then 2 else 0)
 abbrev pub is_held_state : ℕ → Bool
 is_held_state w = w / 2 % 2 == 1
 
--- so many words: those of the list, and then zeros
+-- a row of so many words: those of the list, and then zeros
 abbrev pub filled : ℕ → List ℕ → List ℕ
 filled zero xs = []
 filled (suc n) [] = 0 ∷ filled n []
 filled (suc n) (x ∷ xs) = x ∷ filled n xs
 
--- a guest's modules after the first, in the words behind word 22
+-- a guest's modules after the first, in the words after word 22
 abbrev pub further_modules : ℕ → Task → List ℕ
 further_modules version t = if is_guest_id t.id then filled (head_words_of version - 23) (drop 1 t.modules) else []
 
--- its words 1 and 2
+-- the words 1 and 2 of a task: its number and its priority
 abbrev pub name_words : Task → Pairs
 name_words t = row_from t.address (word_index Id) (t.id ∷ t.priority ∷ [])
 
--- its words 4 to 16, from the state to the saved registers
+-- the words 4 to 16 of a task, from the state to the saved registers
 abbrev pub state_words : ℕ → Task → Pairs
 state_words version t =
     row_from t.address (word_index State)
     (state_word t ∷ t.flags ∷ stack_of version t ∷ t.highest ∷ globals_of version t ∷ t.maker ∷ first_of (λ m. m) t.modules 0
     ∷ t.saved.a ∷ t.saved.b ∷ t.saved.c ∷ t.saved.p ∷ t.saved.g ∷ t.saved.pc ∷ [])
 
--- its words from 21 on: the fault, its address, and the further modules
+-- the words of a task from 21 on: the fault, its address, and the further modules
 abbrev pub fault_words : ℕ → Task → Pairs
 fault_words version t = row_from t.address (word_index Extra1) (t.fault ∷ t.fault_address ∷ further_modules version t)
 

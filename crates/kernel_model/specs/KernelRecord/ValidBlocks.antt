@@ -17,7 +17,7 @@ BlocksTile l = Follow 200 l.blocks (l.size - 2)
 pub record HasBlock (bs : List Block) (v u : ℕ) : Type 0 where
   -- the address of the block's size word
   pub start : ℕ
-  -- the data begin behind it
+  -- the data begin after it
   pub here : v ≡ start + 1
   -- it is used, and has the size for a highest index of u
   pub block : used_at v bs ≡ Some (used_block start (need u))
@@ -30,7 +30,7 @@ pub record AreData (bs : List Block) (p n : ℕ) : Type 0 where
   pub holds : holding p bs ≡ Some block
   -- it is not free
   pub used : block.free ≡ false
-  -- it ends behind the last of the words
+  -- it ends after the last of the words
   pub whole : p + n ≤ block_end block
 
 -- the index of the last data word of the resident block, which is larger where faults are reported

@@ -1,4 +1,4 @@
--- The rules of queued packets: where each may stand, and from whom.
+-- The rules of queued packets: where each may be, and from whom.
 use Rattle.std.specs.Prelude.{◌≡◌, ℕ, ◌≤◌, ◌⊎◌, ◌==◌, ◌&&◌, Bool, true, false, not, List, [], ◌∷◌, is_some}
 use Rattle.std.specs.List.{AllByRecursion}
 use Rattle.kernel_lists.specs.PacketQueue.QueueWords.{QueuedPacket}
@@ -48,7 +48,7 @@ IsKeyPlace (Work id) sender = (id ≡ 3) × (sender ≡ keyboard)
 IsKeyPlace Keyboard sender = sender ≡ 3
 IsKeyPlace _ sender = ⊥
 
--- Invariant 17: it stands there, with type and second result 0.
+-- Invariant 17: it is there, with type and second result 0.
 pub record IsKeyPacket (at : Place) (p : QueuedPacket) : Type 0 where
   -- where it is, and from whom
   pub place : IsKeyPlace at p.sender
@@ -69,7 +69,7 @@ pub record IsFaultPacket (at : Place) (p : QueuedPacket) : Type 0 where
   -- its second result
   pub last : p.last ≡ 0
 
--- Invariants 15 to 18: a packet may stand there.
+-- Invariants 15 to 18: a packet may be there.
 pub record MayStand (l : Lists) (at : Place) (p : QueuedPacket) : Type 0 where
   -- invariant 15
   pub lodged : AreData l.blocks p.address 5

@@ -7,7 +7,7 @@ use Rattle.word_store.specs.Count.{times}
 use Rattle.kernel_model.specs.KernelRecord.KernelRanges.{Words, meets}
 use Rattle.std.proofs.Math.Bool.{or-false, or_assoc}
 
--- whether the word is marked; there is no mark behind the last one
+-- whether the word is marked; there is no mark after the last one
 abbrev pub is_marked : List Bool → ℕ → Bool
 is_marked marks a = slice_index_or marks a false
 

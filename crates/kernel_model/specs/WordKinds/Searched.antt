@@ -7,7 +7,8 @@ use Rattle.kernel_model.specs.KernelRecord.KernelRanges.{Words, meets}
 use Rattle.kernel_model.specs.declared.word_kinds.search.Search.{Search}
 use Rattle.std.proofs.Math.Bool.{or-false, or_assoc}
 
--- it looks for the same words, and has found one where it had before, or where one of them is in the ranges
+-- after it was shown these ranges, a search looks for the same words, and has found one where it had before, or where one of them
+-- is in the ranges
 pub record Searched (u v : Search) (ws : List Words) : Type 0 where
   -- from the same word
   pub from : v.from ≡ u.from

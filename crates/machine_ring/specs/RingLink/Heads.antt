@@ -12,11 +12,11 @@ use Rattle.machine_ring.specs.declared.ring_link.inputs.TheConstants.{MOST_LETTE
 
 -- ---- the ranges
 
--- so many rounds
+-- a number of rounds that a ring may have
 abbrev pub is_round_count : ℕ → Bool
 is_round_count n = nat_le n MOST_ROUNDS
 
--- rounds after which a byte is sent again
+-- a number of rounds after which a byte may be sent again
 abbrev pub is_wait : ℕ → Bool
 is_wait n = nat_le 1 n && nat_le n MOST_WAIT
 
@@ -48,7 +48,7 @@ abbrev pub letters : ℕ → List ℕ → Result (List ℕ) Refusal
 letters n text =
     if list_all is_letter text then if is_letter_count (length text) then Ok text else Err (refusal n 2) else Err (refusal n 1)
 
--- the same, after their word
+-- the letters of line n, after their word
 abbrev pub letters_after : List ℕ → ℕ → List ℕ → Result (List ℕ) Refusal
 letters_after word n line = do
   text ← ok_or (after_word word line) (refusal n 1)

@@ -7,7 +7,7 @@ use Rattle.machine_ring.specs.RingLink.Heads.{is_round_count, is_wait}
 use Rattle.machine_ring.specs.RingLink.RingForm.{AreLetters}
 use Rattle.machine_ring.specs.declared.ring_link.inputs.RingInput.{RingInput}
 
--- behind so many lines, the number of each line is one of 32 bits
+-- after so many lines, the number of each line is one of 32 bits
 abbrev pub FitBehind : ℕ → List SessionLine → Type 0
 FitBehind before lines = AllByRecursion (λ line. before + line.line < 2 ^ 32) lines
 

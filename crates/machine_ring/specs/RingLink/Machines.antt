@@ -45,7 +45,7 @@ kernel_lines lines = if has_bare lines then Err (bare_refusal (session_lines lin
 abbrev pub refusal_behind : ℕ → Refusal → Refusal
 refusal_behind before r = refusal (before + r.line) r.code
 
--- what is read of lines that stand behind so many others
+-- what is read of lines that come after so many others
 abbrev pub behind : {X : Type 0} → ℕ → Result X Refusal → Result X Refusal
 behind before (Ok x) = Ok x
 behind before (Err r) = Err (refusal_behind before r)
@@ -55,7 +55,7 @@ abbrev pub IsUpTo : ℕ → TextEnd → Type 0
 IsUpTo most (Bad line code) = line ≤ most
 IsUpTo most WantMemory = Unit {0}
 
--- the end of a text that stands behind so many lines
+-- the end of a text that comes after so many lines
 abbrev pub end_behind : ℕ → TextEnd → TextEnd
 end_behind before (Bad line code) = Bad (before + line) code
 end_behind before WantMemory = WantMemory

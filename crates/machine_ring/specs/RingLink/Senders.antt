@@ -36,13 +36,13 @@ sent_by (Some byte) first s wait = if nat_lt (s.timer + 1) wait then None else S
 sent_by None (Some byte) s wait = Some (s.acknowledged, byte)
 sent_by None None s wait = None
 
--- what is sent in a turn: a byte, behind its number
+-- what is sent in a turn: a byte, after its number
 abbrev pub sent_in_turn : Sender → Option ℕ → ℕ → Option (ℕ × ℕ)
 sent_in_turn s first wait = sent_by s.outstanding first s wait
 
 -- ---- an acknowledgement
 
--- it acknowledges more than was acknowledged
+-- whether a count acknowledges more than was acknowledged
 abbrev pub is_new_count : Sender → ℕ → Bool
 is_new_count s count = nat_lt s.acknowledged count
 

@@ -16,7 +16,7 @@ pub record Transfer : Type 0 where
   pub received : ℕ
   -- these bytes
   pub delivered : List ℕ
-  -- all data that was sent, each byte behind its number, the latest first
+  -- all data that was sent, each byte after its number, the latest first
   pub sent : List (ℕ × ℕ)
   -- all acknowledgements that were sent, the latest first
   pub acknowledgements : List ℕ
@@ -71,7 +71,7 @@ after_event t (Acknowledgement place) = after_acknowledgement t (slice_get t.ack
 
 -- ---- all of them
 
--- one after another
+-- what some events make of a transfer, one after another
 abbrev pub after_events : Transfer → List Event → Transfer
 after_events t [] = t
 after_events t (event ∷ events) = after_events (after_event t event) events
@@ -80,6 +80,6 @@ after_events t (event ∷ events) = after_events (after_event t event) events
 abbrev pub transfer_after : List Event → Transfer
 transfer_after events = after_events new_transfer events
 
--- with some bytes behind them, these are those
+-- the bytes begin with these
 abbrev pub IsPrefix : List ℕ → List ℕ → Type 0
 IsPrefix front whole = (rest : List ℕ) × (front ++ rest ≡ whole)

@@ -18,7 +18,7 @@ after_word word line = if starts_with nat_eq line word then Some (drop (length w
 abbrev pub number_after : List ℕ → ℕ → List ℕ → Result ℕ Refusal
 number_after word n line = ok_or (option_and_then number_of (after_word word line)) (refusal n 1)
 
--- the same, where the number is in its range
+-- the number of a line, where it is in its range
 abbrev pub number_line : List ℕ → (ℕ → Bool) → ℕ → List ℕ → Result ℕ Refusal
 number_line word is_in_range n line = do
   value ← number_after word n line

@@ -1,4 +1,4 @@
--- What the list of a log of lines begins with: which reference it writes to, what stood behind it and what was pending at first, and
+-- What the list of a log of lines begins with: which reference it writes to, what its sink held and what was pending at first, and
 -- what its words tell. The marks are events that say this in numbers, so that two lists that begin with marks and agree have the same
 -- marks.
 use Rattle.std.specs.Prelude.{ℕ, pos, List, [], ◌∷◌, ◌++◌, Option, None, Some}

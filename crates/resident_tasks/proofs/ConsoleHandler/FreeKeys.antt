@@ -36,4 +36,3 @@ keys-stay g e = ap (λ f. cond f (keys_sent g) g) e
 
 pub keys-go : (g : Progress) → (is_some g.lists.key && not g.console.finished) ≡ true → with_keys_sent g ≡ keys_sent g
 keys-go g e = ap (λ f. cond f (keys_sent g) g) e
-

@@ -21,7 +21,7 @@ use Rattle.resident_tasks.specs.ConsoleHandler.Line.{Keyed, key}
 use Rattle.resident_tasks.specs.ConsoleHandler.Progress.{Progress, and_then, begun}
 use Rattle.resident_tasks.specs.ConsoleHandler.Reads.{put_off}
 
--- it runs
+-- the console runs
 pub record RunsConsole (l : Lists) : Type 0 where
   -- a resident runs
   pub runs : RunsResident l
@@ -100,7 +100,7 @@ keys_sent g =
     and_then g (send_own g.words g.lists key_packet CONSOLE keyboard).lists []
     (send_own g.words g.lists key_packet CONSOLE keyboard).events
 
--- unless it is on a queue, or a finished line waits
+-- the key packet is sent, unless it is on a queue, or a finished line waits
 abbrev pub with_keys_sent : Progress → Progress
 with_keys_sent g = if is_some g.lists.key && not g.console.finished then keys_sent g else g
 

@@ -13,7 +13,7 @@ use Rattle.resident_tasks.specs.declared.console_handler.requests.TheConstants.{
 use Rattle.resident_tasks.specs.ConsoleHandler.Progress.{Progress, and_then}
 use Rattle.resident_tasks.specs.ConsoleHandler.Reads.{read_taken, words_read_from}
 
--- so many bytes of the line are for the read
+-- how many bytes of the line a read gets
 abbrev pub given : List ℕ → Request → ℕ
 given line r = min r.second (length line)
 

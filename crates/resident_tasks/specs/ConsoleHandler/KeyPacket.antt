@@ -22,7 +22,7 @@ pub record FindsKeys (l : Lists) : Type 0 where
   -- its first packet is the key packet
   pub first : StartsWithKeys l (work l)
 
--- It is taken, and then on no queue. Its answer is the key.
+-- The key packet, first of these, is taken, and then on no queue. The answer is its key.
 abbrev pub keys_taken_from : List QueuedPacket → Lists → Made
 keys_taken_from [] l = done l
 keys_taken_from (p ∷ ps) l = record {

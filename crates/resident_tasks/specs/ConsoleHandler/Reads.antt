@@ -19,7 +19,7 @@ use Rattle.kernel_model.specs.declared.kernel_record.numbers.TheConstants.{PENDI
 
 -- ---- a read comes
 
--- it was taken, and stands at their end, from its sender
+-- a read that was taken is put at the end of those that wait for a line
 abbrev pub put_off : List ℕ → Lists → Request → Made
 put_off s l r = record {
   answer = Ok minus_one;
@@ -58,7 +58,7 @@ pub record IsReadTaken (s t : List ℕ) (tells : List ℕ → Type 0) (l : Lists
   pub words : t ≡ words_read_from l.pending s
   -- it is the first read that waited
   pub request : result ≡ first_request t l.pending
-  -- its packet stands in the store
+  -- its packet is in the store
   pub stands : IfSome result (λ r. HasRequest t (read_taken l).lists r)
   -- the kernel owned its words before
   pub owns : IfSome result (λ r. OwnsRequest (read_taken l).lists l r)

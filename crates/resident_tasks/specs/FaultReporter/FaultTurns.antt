@@ -23,7 +23,7 @@ pub record CanReport (shown : List ℕ) (l : Lists) : Type 0 where
   pub runs : RunsResident l
   -- it is the task that reports faults
   pub reporter : l.running ≡ REPORTER
-  -- its lines fit behind the bytes that wait
+  -- its lines fit after the bytes that wait
   pub room : length shown + most_reported ≤ 8192
 
 -- a fault that is reported has 256 more in its word
@@ -38,7 +38,7 @@ all_reported l = with_tasks (map reported l.tasks) l
 abbrev pub packet_taken : List QueuedPacket → Lists → Lists
 packet_taken ps l = with_fault_packet true (with_queue (Work REPORTER) ps l)
 
--- it is taken, and all faults that were not reported yet are
+-- the turn with the fault packet: it is taken, and all faults that were not reported yet are
 abbrev pub reported_turn : QueuedPacket → List QueuedPacket → List ℕ → Lists → ResidentTurn
 reported_turn p ps s l = record {
   words = s;

@@ -36,7 +36,7 @@ most_reported = 3008
 abbrev pub is_unreported_word : ℕ → Bool
 is_unreported_word w = nat_le 1 w && nat_lt w 256
 
--- that of the task block at t
+-- the line of the task block at t
 abbrev pub report_at : List ℕ → ℕ → List ℕ
 report_at s t =
     if is_unreported_word (slice_index s (t + word_index FAULT_WORD))

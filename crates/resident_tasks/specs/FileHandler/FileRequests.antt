@@ -26,7 +26,7 @@ pub record Handled : Type 0 where
 abbrev pub handled : Disc → Result ℕ ℕ → List ℕ → Handled
 handled d answer bytes = record { disc = d; answer = answer; bytes = bytes }
 
--- it changes nothing
+-- a request that is refused with a code changes nothing
 abbrev pub refused : Disc → ℕ → Handled
 refused d code = handled d (Err code) []
 
@@ -40,7 +40,7 @@ unless_refused d (test ∷ tests) m = if test.0 then unless_refused d tests m el
 abbrev pub by_call : Outcome ℕ → Handled
 by_call o = handled o.disc o.answer []
 
--- and what a call makes of it that answers nothing: where it is accepted, this is the answer
+-- the answer of a request whose call on the disc gives nothing back: n where it is accepted
 abbrev pub answer_with : ℕ → Result (Unit {0}) ℕ → Result ℕ ℕ
 answer_with n (Ok u) = Ok n
 answer_with n (Err code) = Err code
@@ -80,7 +80,7 @@ rename d s r =
     unless_refused d ((is_name_at s r.first && is_name_at s r.second, BAD_NAME) ∷ [])
     (by_silent_call 0 (after_rename d (first_name s r) (second_name s r)))
 
--- the 16 bytes of the buffer for a name: it as a string, and zeros behind it
+-- the 16 bytes of the buffer for a name: it as a string, and zeros after it
 abbrev pub name_buffer : List ℕ → List ℕ
 name_buffer name = take 16 (length name ∷ name ++ replicate 16 0)
 

@@ -8,7 +8,7 @@ use Rattle.resident_tasks.specs.declared.resident_requests.requests.Request.{Req
 use Rattle.kernel_model.specs.declared.kernel_record.numbers.TheConstants.{FILE_HANDLER}
 use Rattle.resident_tasks.specs.FileHandler.FileRequests.{Handled, file_request}
 
--- it runs
+-- the file handler runs
 pub record RunsFileHandler (l : Lists) : Type 0 where
   -- a resident runs
   pub runs : RunsResident l

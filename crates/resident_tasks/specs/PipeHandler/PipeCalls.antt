@@ -101,7 +101,7 @@ pipe_numbered ps k = if k == 0 then None else pipe_at ps (k - 1)
 abbrev pub are_ends : Bool × Bool × Bool → Bool
 are_ends ends = (ends.0 || ends.1) && (not ends.1 || ends.2)
 
--- it may be made pipe k, which is not there: no pipe has its name, and it holds no more than it may
+-- whether pipe k may be made, which is not there: no pipe has its name, and it holds no more than it may
 abbrev pub can_restore : List (Option Pipe) → ℕ → Bool × Bool × Bool → List ℕ → List ℕ → Bool
 can_restore ps k ends name bytes =
     nat_le 1 k && nat_le k most_pipes && is_none (pipe_numbered ps k) && not (list_any (is_named name) ps) && are_ends ends

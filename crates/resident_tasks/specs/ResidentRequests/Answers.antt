@@ -32,7 +32,7 @@ res2_of (Err code) = code
 abbrev pub answered_packet : Lists → Request → Result ℕ ℕ → QueuedPacket
 answered_packet l r answer = record { address = r.packet; sender = l.running; kind = r.kind; res1 = res1_of answer; last = res2_of answer }
 
--- it comes to the end of its sender's work queue
+-- a request comes to the end of its sender's work queue, with its answer
 abbrev pub returned : Lists → Request → Result ℕ ℕ → Made
 returned l r answer = record {
   answer = Ok minus_one;

@@ -46,11 +46,11 @@ is_count n = nat_le 1 n && nat_le n 4096
 abbrev pub is_readable : List ℕ → ℕ → ℕ → Bool
 is_readable s a n = is_count n && lies_inside s a n
 
--- its words are none of the five of the packet at p
+-- whether the words of n bytes from word a on are none of the five of the packet at p
 abbrev pub lies_beside : ℕ → ℕ → ℕ → Bool
 lies_beside p a n = nat_le (a + covered n) p || nat_le (p + PACKET_WORDS) a
 
--- and nobody owns them
+-- whether nobody owns the words of n bytes from word a on
 abbrev pub is_unowned : Lists → ℕ → ℕ → Bool
 is_unowned l a n = not (list_any (λ b. nat_lt 0 (owners b (owned l))) (range_with_len a (covered n)))
 

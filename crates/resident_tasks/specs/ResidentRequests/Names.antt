@@ -5,7 +5,7 @@ use Rattle.ram_disc.specs.Name.{is_name_byte}
 use Rattle.ram_disc.specs.declared.codes.TheConstants.{BAD_NAME}
 use Rattle.resident_tasks.specs.ResidentRequests.Buffers.{byte_in, bytes_in, lies_inside}
 
--- 1 to 12 bytes that may stand in a name
+-- 1 to 12 bytes that may be in a name
 abbrev pub is_name : List ℕ → Bool
 is_name bytes = nat_le 1 (length bytes) && (nat_le (length bytes) 12 && list_all is_name_byte bytes)
 

@@ -28,7 +28,7 @@ pub record RunsResident (l : Lists) : Type 0 where
   -- its field is that of one that runs
   pub field : RunsAlive l
 
--- its packets
+-- the packets on the work queue of the running task
 abbrev pub work : Lists → List QueuedPacket
 work l = queue_of (Work l.running) l
 
@@ -93,7 +93,7 @@ abbrev pub first_request : List ℕ → List QueuedPacket → Option Request
 first_request s [] = None
 first_request s (p ∷ ps) = Some (request_at s p.address)
 
--- The request was taken: its packet stands in the data of one used block, nobody owns its words, and its sender is there.
+-- The request was taken: its packet lies in the data of one used block, nobody owns its words, and its sender is there.
 pub record HasRequest (s : List ℕ) (l : Lists) (r : Request) : Type 0 where
   -- the packet has the sender's number
   pub sender : slice_index s (r.packet + SENDER) ≡ r.sender
@@ -119,5 +119,5 @@ pub record IsTaken (s t : List ℕ) (tells : List ℕ → Type 0) (l : Lists) (r
   pub runs : RunsResident (taken l).lists
   -- it is the request of the first packet
   pub request : result ≡ first_request t (work l)
-  -- its packet stands in the store
+  -- its packet is in the store
   pub stands : IfSome result (λ r. HasRequest t (taken l).lists r)

@@ -38,11 +38,11 @@ pub record IsResidentTurn (t : List ℕ) (tells : List ℕ → Type 0) (old new 
   pub notes : NotesAll old.noted new.noted old.failed new.failed m.events
 
 -- These bytes were written into a buffer from word a on: the store holds the same lists, of the other words only those of the
--- buffer have changed, and the request stands as it did.
+-- buffer have changed, and the request is as it was.
 pub record HasWritten (s t : List ℕ) (l : Lists) (r : Request) (a : ℕ) (bytes : List ℕ) : Type 0 where
   -- the store holds the lists, and the words of the buffer alone have changed
   pub lists : IsChanged s t l (written_buffer s a bytes)
-  -- the request stands as before
+  -- the request is as before
   pub stands : HasRequest t l r
 
 -- ---- a turn in which a request is answered

@@ -42,7 +42,7 @@ abbrev pub StateKeepsBytes : State → Type 0
 StateKeepsBytes (Bare m) = Unit {0}
 StateKeepsBytes (Full k) = KeepsBytes k
 
--- its words are words, and its bytes are bytes, as those of every machine
+-- the words of a state are words, and its bytes are bytes, as those of every machine
 pub record HasWordsAndBytes (s : State) : Type 0 where
   -- the words of the store
   pub words : AllByRecursion (λ w. w < 2 ^ 32) (words_of s)
@@ -56,6 +56,6 @@ abbrev pub IsSized : ℕ → State → Type 0
 IsSized version (Bare m) = IsVersion version × IsTrue (is_store_size version (length m.words))
 IsSized version (Full k) = Unit {0}
 
--- it may take so many steps more
+-- a machine in this state may take so many steps more
 abbrev pub MayTake : State → ℕ → Type 0
 MayTake s go = IsTrue (is_step (steps_of s + go))

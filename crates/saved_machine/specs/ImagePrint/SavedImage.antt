@@ -36,11 +36,11 @@ saved_mode KernelReading = Reading
 saved_mode (KernelWaiting id) = Waiting id
 saved_mode KernelTyping = Typing
 
--- what stands at a place, if something does, with the number of the place
+-- what is at a place, if something does, with the number of the place
 abbrev pub at_place : {A B : Type 0} → (ℕ → A → B) → ℕ → Option A → List B
 at_place f k x = option_to_list (option_map (f k) x)
 
--- what stands at the places of a list, each with the number of its place, of which the first is k
+-- what is at the places of a list, each with the number of its place, of which the first is k
 abbrev pub with_places : {A B : Type 0} → (ℕ → A → B) → ℕ → List (Option A) → List B
 with_places f k [] = []
 with_places f k (x ∷ xs) = at_place f k x ++ with_places f (k + 1) xs

@@ -54,7 +54,7 @@ abbrev pub front_text : Kernel → List ℕ
 front_text k =
     text_of_lines (head_lines k.lists.version k.lists.size false k.lists.period k.steps k.regs) ++ text_of_lines (resident_lines k.type_ahead k.console k.shell)
 
--- its files, streams, pipes and keys
+-- the lines of an image's files, streams, pipes and keys
 abbrev pub entries_text : Kernel → List ℕ
 entries_text k =
     disc_text k.disc ++ (statements_text (map pipe_statement (numbered_pipes k.pipes)) ++ statements_text (map key_statement k.keys))

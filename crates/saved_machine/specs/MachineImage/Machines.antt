@@ -1,4 +1,4 @@
--- The machine that a saved machine's text stands for.
+-- The machine that a saved machine's text represents.
 use Rattle.std.specs.Prelude.{◌≡◌, ℕ, if◌then◌else◌, Bool, true, false, List, [], length}
 use Rattle.store_claims.specs.AdoptionLaw.Adoption.{IsAdopted, StoreRepresentsKernel, kernel_in}
 use Rattle.kernel_model.specs.KernelRecord.Lists.{Lists}
@@ -15,7 +15,7 @@ use Rattle.saved_machine.specs.declared.machine_image.parts.KeptParts.{KeptParts
 use Rattle.saved_machine.specs.declared.machine_image.parts.MadeParts.{MadeParts}
 use Rattle.saved_machine.specs.MachineImage.Parts.{console_of, disc_with, others_of, placed_pipes, shell_of}
 
--- a bare one has the words, the registers and the steps, and one with a kernel is a valid kernel that stands for the words and
+-- a bare one has the words, the registers and the steps, and one with a kernel is a valid kernel that is represented by the words and
 -- all else; neither has stopped
 abbrev pub IsOfKind : Bool → Image → State → Type 0
 IsOfKind true x (Bare m) = m ≡ going x.store x.regs x.step
@@ -43,7 +43,7 @@ pub record IsResumed (x : Image) (m : MachineView) : Type 0 where
   -- no byte waits for the console
   pub output : m.output ≡ []
 
--- A valid kernel stands for what was saved, and these are its disc and its pipes.
+-- What was saved represents a valid kernel, and these are its disc and its pipes.
 pub record AreKept (x : Image) (kept : KeptParts) : Type 0 where
   -- the kernel
   pub adopted : IsAdopted x.store (others_of x)

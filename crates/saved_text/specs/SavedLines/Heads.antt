@@ -86,7 +86,7 @@ abbrev pub regs_line : ℕ → List ℕ → Result Regs Refusal
 regs_line n line =
     option_map_or (regs_or_refusal n) (option_and_then six_numbers (after_word (codes "REGS ") line)) (Err (refusal n 1))
 
--- the digits behind a colon, where they are hex
+-- the digits after a colon, where they are hex
 abbrev pub hex_field : List ℕ → Option (List ℕ)
 hex_field text = do
   digits ← after_word (codes ":") text

@@ -15,7 +15,7 @@ seen (KeyByte step byte) = Key step byte
 seen (WordAt address word) = Word address word
 seen (GoSteps steps) = Go steps
 
--- its digits are hex
+-- the digits of a statement are hex
 abbrev pub HasHex : Statement → Type 0
 HasHex (BytesSlice digits) = IsTrue (is_hex digits.now)
 HasHex (PipeSlices k reading writing written name digits) = IsTrue (is_hex digits.now)

@@ -10,7 +10,7 @@ use Rattle.session_text.specs.Statements.{is_field, number_field, split_at_blank
 use Rattle.saved_text.specs.SavedLines.Heads.{hex_field}
 use Rattle.saved_text.specs.SavedLines.HexText.{bytes_of, is_hex}
 
--- The numbers and names are those that stand there, in their ranges or not.
+-- The numbers and names are those that the line has, in their ranges or not.
 pub data Statement : Type 0 where
   File : List ℕ → Statement
   Bytes : List ℕ → Statement
@@ -71,7 +71,7 @@ stream_of text = do
   pos ← number_field m.1
   if is_field pos.1 then Some (Stream k.0 m.0 pos.0 pos.1) else None
 
--- a field before a blank, and what stands after that
+-- a field before a blank, and what comes after that
 abbrev pub field_before_blank : List ℕ → Option (List ℕ × List ℕ)
 field_before_blank text = do
   parts ← split_at_blank text

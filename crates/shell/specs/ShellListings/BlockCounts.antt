@@ -20,7 +20,7 @@ with_free c b =
 abbrev pub counted : BlockCounts → Block → BlockCounts
 counted c b = if b.free then with_free c b else with_used c b
 
--- with all of these
+-- the counts with all of these blocks
 abbrev pub counts_from : BlockCounts → List Block → BlockCounts
 counts_from c [] = c
 counts_from c (b ∷ bs) = counts_from (counted c b) bs

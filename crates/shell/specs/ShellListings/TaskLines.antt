@@ -23,7 +23,7 @@ abbrev pub mark : List ℕ → Bool → List ℕ
 mark text true = text
 mark text false = []
 
--- with the marks that packets wait, and that the task is held
+-- the text of a state: its word, and the marks that packets wait, and that the task is held
 abbrev pub state_text : ℕ → Bool → Bool → List ℕ
 state_text field waiting held = joined (field_name field ∷ mark (codes " pkt") waiting ∷ mark (codes " held") held ∷ [])
 
@@ -61,7 +61,7 @@ has_packets w = w % 2 == 1
 abbrev pub line_of_words : ℕ → ℕ → ℕ → List ℕ
 line_of_words id priority state = line_with id priority (state_text (field_of state) (has_packets state) (is_held_state state))
 
--- that of the task block at t
+-- the line of the task block at t
 abbrev pub task_line_at : List ℕ → ℕ → List ℕ
 task_line_at s t = line_of_words (id_in s t) (priority_in s t) (slice_index s (t + word_index State))
 

@@ -11,7 +11,7 @@ use Rattle.kernel_model.specs.KernelRecord.Standing.{Standing, standing}
 use Rattle.kernel_model.specs.declared.kernel_record.numbers.TheConstants.{SHELL, SHELL_PACKET}
 use Rattle.shell.specs.ShellPrograms.Standings.{left_by}
 
--- it is on no queue: nobody owns its first five words
+-- the shell's packet is on no queue: nobody owns its first five words
 pub record HasPacket (l : Lists) : Type 0 where
   -- the shell is there
   pub shell : has_task SHELL l.tasks ≡ true
@@ -33,7 +33,7 @@ posted to k = left_by k.words (send_own k.words k.lists SHELL_PACKET SHELL to)
 abbrev pub post_events : ℕ → List KernelEvent
 post_events to = Accepted (signed to) SHELL_PACKET (signed SHELL) ∷ []
 
--- its type, its results and its arguments, as those of a request of this type
+-- the type, the results and the arguments of the shell's packet as a request of this type
 abbrev pub request_words : ℕ → Pairs
 request_words kind = row_from SHELL_PACKET 2 (kind ∷ 0 ∷ 0 ∷ 0 ∷ 0 ∷ 0 ∷ [])
 

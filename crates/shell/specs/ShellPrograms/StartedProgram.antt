@@ -21,11 +21,11 @@ use Rattle.shell.specs.declared.shell_programs.programs.Priority.TheVariants.{Ab
 abbrev pub program_stack : ℕ
 program_stack = 1000
 
--- its number: the lowest of a guest's that no task has, or where all are used one more than the highest
+-- the number that a new program gets: the lowest of a guest's that no task has, or where all are used one more than the highest
 abbrev pub next_number : Lists → ℕ
 next_number l = unwrap_or (free_id l) (highest_id_of l.version + 1)
 
--- its priority: the shell has 1000
+-- the priority that a new program gets: the shell has 1000
 abbrev pub priority_of : Priority → Lists → ℕ
 priority_of (Given pri) l = pri
 priority_of BelowShell l = 500 + next_number l
@@ -56,7 +56,7 @@ load_program d name rest l = load_found (option_map (λ f. f.bytes) (file_named 
 
 -- ---- its task
 
--- where it is refused, its module goes out again
+-- where no task can be created the module goes again
 abbrev pub after_creation : Result ℕ ℕ → ℕ → Standing → Started
 after_creation (Ok id) m k = started (Ok id) k
 after_creation (Err code) m k = started (Err code) (unloaded m k)
@@ -87,9 +87,9 @@ start_program d name rest priority k =
 abbrev pub begun : ℕ → Standing → Standing
 begun id k = left_with k.words (with_begun k.words id k.lists) []
 
--- The function has answered so, and the store stands so.
+-- The function has answered so, and the store is as is said.
 pub record IsStarted (s : List ℕ) (tells : List ℕ → Type 0) (room : ℕ) (answer : Result ℕ ℕ) (x : Started) : Type 0 where
   -- this is the answer
   pub answered : answer ≡ x.answer
-  -- the store stands as it is left
+  -- the store is as it is left
   pub stands : RepresentsStanding s tells room x.left

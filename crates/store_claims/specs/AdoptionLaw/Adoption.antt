@@ -41,7 +41,7 @@ HasKernel s o = (k : Kernel) × IsValid k × StoreRepresentsKernel s o k
 
 -- ---- the one that can
 
--- its lists are those that are read off the store, and its plain words those that they do not own
+-- The kernel that is read off: its lists are those of the store, and its plain words those that the lists do not own.
 unfoldable pub kernel_in : List ℕ → OtherParts → Kernel
 kernel_in s o = record {
   lists = lists_in s;
@@ -57,7 +57,7 @@ kernel_in s o = record {
   stop = None;
 }
 
--- The other parts stand beside the lists of this kernel: the rules between steps hold of it.
+-- The other parts fit the lists of this kernel: the rules between steps hold of it.
 pub record OthersStand (o : OtherParts) (k : Kernel) : Type 0 where
   -- the version is the one that the store tells
   pub version : k.lists.version ≡ o.version
@@ -74,7 +74,7 @@ pub record OthersStand (o : OtherParts) (k : Kernel) : Type 0 where
   -- the steps, and those of keys
   pub steps : HasSteps k
 
--- The lists that are read off the store are valid, the store holds their words, and the other parts stand beside them. No kernel is
+-- The lists that are read off the store are valid, the store holds their words, and the other parts fit them. No kernel is
 -- named here but the one that is read off, so this can be decided.
 pub record IsAdopted (s : List ℕ) (o : OtherParts) : Type 0 where
   -- the lists

@@ -64,8 +64,8 @@ pub record ListsEnd (s : List ℕ) : Type 0 where
 
 -- ---- the words of tasks
 
--- The words that follow from what is read off, but need not stand so in every store: the bit of the queue, the addresses of stack
--- and globals, the zeros behind the modules, and the fixed words of coroutines.
+-- The words that follow from what is read off, but need not be so in every store: the bit of the queue, the addresses of stack
+-- and globals, the zeros after the modules, and the fixed words of coroutines.
 pub record HeadStands (s : List ℕ) (l : Lists) (t : Task) : Type 0 where
   -- the words 4 to 16 of the task block
   pub state : Holds s (state_words l.version t)

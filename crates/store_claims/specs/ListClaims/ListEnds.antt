@@ -42,7 +42,7 @@ ConsoleQueueEnds s = QueueEnds s pending_head × PacketsEnd
 abbrev pub ConsoleAll : List ℕ → Type 0
 ConsoleAll s = Unit {0} × ConsoleQueueEnds s
 
--- so they do where there are residents
+-- the reads that wait for a line end, where there are residents
 abbrev pub ConsoleEnds : List ℕ → Type 0
 ConsoleEnds s = has_residents s ≡ true → ConsoleAll s
 

@@ -67,46 +67,46 @@ fault_words_in s = free_packet (has_reporter s) s fault_packet
 
 -- ---- the words that are left to claim, from the last list to the first one
 
--- the arguments of the key packet, and the fault packet
+-- the addresses that are left to claim: the arguments of the key packet, and the fault packet
 abbrev pub argument_rest : List ℕ → List ℕ
 argument_rest s = range_with_len 276 3 ++ fault_words_in s
 
--- the key packet, and those
+-- the addresses from the key packet on
 abbrev pub packet_rest : List ℕ → List ℕ
 packet_rest s = free_packet true s key_packet ++ argument_rest s
 
--- the reads that wait for a line, and those
+-- the addresses from the reads that wait for a line on
 abbrev pub console_rest : List ℕ → List ℕ
 console_rest s = queue_words_at s pending_head ++ packet_rest s
 
--- the head of these reads, and those: all words of residents but for their task blocks
+-- the addresses from the head of these reads on: all words of residents but for their task blocks
 abbrev pub console_words : List ℕ → List ℕ
 console_words s = range_with_len pending_head 1 ++ console_rest s
 
--- the same; without residents there are none
+-- the same, where there are residents
 abbrev pub resident_words_in : List ℕ → List ℕ
 resident_words_in s = if has_residents s then console_words s else []
 
--- the packets of the output, and those
+-- the addresses from the packets of the output on
 abbrev pub output_rest : List ℕ → List ℕ
 output_rest s = queue_words_at s output_head ++ resident_words_in s
 
--- of the keyboard, and those
+-- the addresses from the packets of the keyboard on
 abbrev pub keyboard_rest : List ℕ → List ℕ
 keyboard_rest s = queue_words_at s keyboard_head ++ output_rest s
 
--- of the clock, and those
+-- the addresses from the packets of the clock on
 abbrev pub device_rest : List ℕ → List ℕ
 device_rest s = queue_words_at s clock_head ++ keyboard_rest s
 
--- the lists of each task, and those
+-- the addresses from the lists of each task on
 abbrev pub task_rest : List ℕ → List ℕ
 task_rest s = flat_map (task_list_words s) (tasks_in s) ++ device_rest s
 
--- the modules, and those
+-- the addresses from the modules on
 abbrev pub module_rest : List ℕ → List ℕ
 module_rest s = module_words_in s ++ task_rest s
 
--- the chain of tasks, and those: all
+-- the addresses of all these words, from the chain of tasks on
 abbrev pub all_words : List ℕ → List ℕ
 all_words s = chain_words s ++ module_rest s

@@ -2,7 +2,7 @@
 use Rattle.std.specs.Prelude.{◌≡◌, ◌↔◌, ℕ, ◌+◌, ◌<◌, ◌≤◌, ◌&&◌, Bool, true, false, if◌then◌else◌, nat_le, nat_lt, List, length, slice_index_or}
 use Rattle.word_store.specs.Count.{times}
 
--- whether the word is open; behind the last mark none is
+-- whether the word is open; after the last mark none is
 abbrev pub is_open : List Bool → ℕ → Bool
 is_open marks a = slice_index_or marks a false
 

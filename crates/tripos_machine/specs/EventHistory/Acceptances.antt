@@ -21,36 +21,36 @@ accepts p (Taken q r s) = false
 accepts p (Dequeued q r) = false
 accepts p (Runs t) = false
 
--- of these events those before the packet's end: all, where it has none
+-- the events before the packet's end: all, where it has none
 abbrev pub before_end : ℕ → List KernelEvent → List KernelEvent
 before_end p [] = []
 before_end p (e ∷ es) = if is_end p e then [] else e ∷ before_end p es
 
--- and those from its end on
+-- the events from the packet's end on
 abbrev pub from_end : ℕ → List KernelEvent → List KernelEvent
 from_end p [] = []
 from_end p (e ∷ es) = if is_end p e then e ∷ es else from_end p es
 
--- A packet comes to a queue, or stands there at the start.
+-- A packet comes to a queue, or is there at the start.
 pub record Acceptance : Type 0 where
   -- the packet, its sender, and at the clock when it is due
   pub entry : Entry
   -- the events after it
   pub later : List KernelEvent
 
--- it stands there at the start of these events
+-- an acceptance of a packet that is there before these events
 abbrev pub at_start : List KernelEvent → Entry → Acceptance
 at_start later e = record { entry = e; later = later }
 
--- its end is the first later event that takes or dequeues its packet
+-- the end of an acceptance: the first later event that takes or dequeues its packet
 abbrev pub end_of : Acceptance → Option KernelEvent
 end_of x = find (is_end x.entry.packet) x.later
 
--- its packet is accepted again before its end
+-- whether the packet of an acceptance is accepted again before its end
 abbrev pub is_repeated : Acceptance → Bool
 is_repeated x = list_any (accepts x.entry.packet) (before_end x.entry.packet x.later)
 
--- so many events come after its end
+-- whether so many events come after the end of an acceptance
 abbrev pub has_later_events : ℕ → Acceptance → Bool
 has_later_events n x = length (from_end x.entry.packet x.later) == suc n
 
@@ -75,12 +75,12 @@ accepted_by q (Taken r p s) due later = []
 accepted_by q (Dequeued r p) due later = []
 accepted_by q (Runs t) due later = []
 
--- those of all events, in order
+-- the acceptances on a queue, of all events, in order
 abbrev pub accepted_in : ℤ → List Timed → List Acceptance
 accepted_in q [] = []
 accepted_in q (x ∷ xs) = accepted_by q x.event x.due (events_of xs) ++ accepted_in q xs
 
--- first those that stand there at the start, in the order of the queue, and then those of the events
+-- first those that are there at the start, in the order of the queue, and then those of the events
 abbrev pub accepted_on : ℤ → Ledger → List Timed → List Acceptance
 accepted_on q b xs = map (at_start (events_of xs)) (b q) ++ accepted_in q xs
 
@@ -97,7 +97,7 @@ taken_by q (Taken r p s) = if same_queue r q then (p, s) ∷ [] else []
 taken_by q (Dequeued r p) = []
 taken_by q (Runs t) = []
 
--- those that the events take from a queue, in order
+-- the packets that the events take from a queue, in order
 abbrev pub taken_from : ℤ → List KernelEvent → List (ℕ × ℤ)
 taken_from q [] = []
 taken_from q (e ∷ es) = taken_by q e ++ taken_from q es
@@ -111,19 +111,19 @@ leaves q (Runs t) = false
 
 -- ---- how an acceptance ended
 
--- it has none
+-- whether an acceptance has no end
 abbrev pub is_open : Option KernelEvent → Bool
 is_open None = true
 is_open (Some e) = false
 
--- its packet was dequeued
+-- whether an end dequeues the packet
 abbrev pub is_dequeue : KernelEvent → Bool
 is_dequeue (Accepted q p s) = false
 is_dequeue (Taken q p s) = false
 is_dequeue (Dequeued q p) = true
 is_dequeue (Runs t) = false
 
--- it has an end by which its packet was dequeued
+-- whether an acceptance has an end by which its packet was dequeued
 abbrev pub is_dequeued : Option KernelEvent → Bool
 is_dequeued None = false
 is_dequeued (Some e) = is_dequeue e

@@ -53,11 +53,11 @@ with_queue q es b = λ r. if same_queue r q then es else b r
 abbrev pub entry_on : ℤ → ℕ → ℤ → ℕ → Entry
 entry_on q p s due = record { packet = p; sender = s; due = if same_queue q clock then due else 0 }
 
--- at the clock a packet stands after all that are due no later, and elsewhere at the end
+-- at the clock a packet comes after all that are due no later, and elsewhere at the end
 abbrev pub arrived : ℤ → Entry → List Entry → List Entry
 arrived q x es = if same_queue q clock then insert_after (λ e. nat_le e.due x.due) x es else es ++ x ∷ []
 
--- An accepted packet arrives; the first one is taken; and one that is dequeued goes, wherever it stands.
+-- An accepted packet arrives; the first one is taken; and one that is dequeued goes, wherever it is.
 abbrev pub after_event : KernelEvent → ℕ → Ledger → Ledger
 after_event (Accepted q p s) due b = with_queue q (arrived q (entry_on q p s due) (b q)) b
 after_event (Taken q p s) due b = with_queue q (drop 1 (b q)) b
@@ -66,21 +66,21 @@ after_event (Runs t) due b = b
 
 -- ---- which events may come
 
--- the packet stands on the queue
+-- the packet is on the queue
 abbrev pub stands_in : ℕ → List Entry → Bool
 stands_in p es = list_any (λ e. p == e.packet) es
 
--- it stands on no queue
+-- the packet is on no queue
 abbrev pub IsNowhere : ℕ → Ledger → Type 0
 IsNowhere p b = (q : ℤ) → stands_in p (b q) ≡ false
 
--- it is the first of the queue, from this sender
+-- the packet is the first of the queue, from this sender
 abbrev pub IsFirst : ℕ → ℤ → List Entry → Type 0
 IsFirst p s [] = ⊥
 IsFirst p s (e ∷ es) = (e.packet ≡ p) × (e.sender ≡ s)
 
 -- A packet that is accepted was on no queue; one that is taken is the first of its queue, from that sender; and one that is
--- dequeued stands on that queue.
+-- dequeued is on that queue.
 abbrev pub May : KernelEvent → Ledger → Type 0
 May (Accepted q p s) b = IsNowhere p b
 May (Taken q p s) b = IsFirst p s (b q)
@@ -96,15 +96,15 @@ Follows (x ∷ xs) b a = May x.event b × Follows xs (after_event x.event x.due 
 
 -- ---- no packet twice
 
--- how often the packet stands on the queue
+-- how often the packet is on the queue
 abbrev pub count_of : ℕ → List Entry → ℕ
 count_of p es = times p (map (λ e. e.packet) es)
 
--- each packet stands on one queue at most, and there once
+-- each packet is on one queue at most, and there once
 pub record AreOnce (b : Ledger) : Type 0 where
-  -- none stands twice on a queue
+  -- none is twice on a queue
   pub once : (q : ℤ) (p : ℕ) → count_of p (b q) ≤ 1
-  -- none stands on two queues
+  -- none is on two queues
   pub one : (q r : ℤ) (p : ℕ) → stands_in p (b q) ≡ true → stands_in p (b r) ≡ true → q ≡ r
 
 -- due ticks never fall along a queue

@@ -6,11 +6,11 @@ use Rattle.tripos_machine.specs.EventHistory.Ledger.{AreOnce, Entry, Ledger, Nev
 
 -- ---- which acceptances
 
--- those without an end
+-- the acceptances without an end
 abbrev pub open_ones : List Acceptance → List Acceptance
 open_ones xs = filter (λ x. is_open (end_of x)) xs
 
--- those that were not dequeued
+-- the acceptances whose packets were not dequeued
 abbrev pub not_dequeued : List Acceptance → List Acceptance
 not_dequeued xs = filter (λ x. not (is_dequeued (end_of x))) xs
 
@@ -24,11 +24,11 @@ entries_of xs = map (λ x. x.entry) xs
 
 -- ---- which entries
 
--- those that are due at a tick
+-- the entries that are due at a tick
 abbrev pub due_at : ℕ → List Entry → List Entry
 due_at tick es = filter (λ e. e.due == tick) es
 
--- those of a packet
+-- the entries of a packet
 abbrev pub of_packet : ℕ → List Entry → List Entry
 of_packet p es = filter (λ e. p == e.packet) es
 
@@ -52,10 +52,10 @@ pub record QueueHistory (b : Ledger) (xs : List Timed) (a : Ledger) : Type 0 whe
   pub left : (q : ℤ) (p : ℕ) → map pair_of (of_packet p (a q)) ≡ map pair_of (of_packet p (entries_of (open_ones (accepted_on q b xs))))
   -- and there once
   pub once : AreOnce a
-  -- those taken, and behind them those still queued, are the accepted ones in order, without those that were dequeued
+  -- those taken, and after them those still queued, are the accepted ones in order, without those that were dequeued
   pub order : (q : ℤ) → same_queue q clock ≡ false
       → taken_from q (events_of xs) ++ map pair_of (a q) ≡ pairs_of (not_dequeued (accepted_on q b xs))
-  -- at the clock those that are due at one tick stand in the order in which they were accepted
+  -- at the clock those that are due at one tick are in the order in which they were accepted
   pub due : (tick : ℕ) → map pair_of (due_at tick (a clock)) ≡ map pair_of (due_at tick (entries_of (open_ones (accepted_on clock b xs))))
   -- and due ticks never fall
   pub falls : NeverFall (a clock)

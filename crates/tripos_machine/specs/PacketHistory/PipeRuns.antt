@@ -11,11 +11,11 @@ use Rattle.kernel_machine.specs.KernelSteps.Step.{step}
 abbrev pub requests_of_turn : Kernel → List PipeRequest
 requests_of_turn k = if (k.lists.running == 4) && serves_pipes k.lists then requests_in_turn (image k) k.lists else []
 
--- those of a step: a machine that has stopped makes none, and neither does a device or a dispatch
+-- the requests of a step: a machine that has stopped makes none, and neither does a device or a dispatch
 abbrev pub requests_of_step : Kernel → List PipeRequest
 requests_of_step k = if is_some k.stop then [] else requests_of_turn k
 
--- those of n steps
+-- the requests of n steps
 abbrev pub requests_of_run : ℕ → Kernel → List PipeRequest
 requests_of_run zero k = []
 requests_of_run (suc n) k = requests_of_step k ++ requests_of_run n (step k).kernel

@@ -32,7 +32,7 @@ AreReturns device (Taken q p s ∷ Runs t ∷ es) = ⊥
 
 -- ---- the events of a dispatch
 
--- it accepts nothing
+-- the event accepts no packet
 abbrev pub IsNoAcceptance : KernelEvent → Type 0
 IsNoAcceptance (Accepted q p s) = ⊥
 IsNoAcceptance (Taken q p s) = Unit {0}
@@ -57,7 +57,7 @@ typed k = key (ticked k).kernel
 abbrev pub printed : Kernel → Stepped
 printed k = output (typed k).kernel
 
--- and the dispatch
+-- the step after its last part, the dispatch
 abbrev pub dispatched : Kernel → Stepped
 dispatched k = dispatch (printed k).kernel
 

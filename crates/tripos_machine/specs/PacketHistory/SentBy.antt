@@ -12,7 +12,7 @@ abbrev pub IsFrom : Bool → ℤ → Option KernelEvent → ℕ → ℤ → Type
 IsFrom true from before p s = before ≡ Some (Taken (pos 3) p s)
 IsFrom false from before p s = s ≡ from
 
--- an event that accepts a packet, behind this one, is of a packet that is so
+-- an event that accepts a packet, after this one, is of a packet that is so
 abbrev pub IsSentBy : ℤ → Option KernelEvent → KernelEvent → Type 0
 IsSentBy from before (Accepted q p s) = IsFrom (same_queue q (pos pending_number)) from before p s
 IsSentBy from before (Taken q p s) = Unit {0}

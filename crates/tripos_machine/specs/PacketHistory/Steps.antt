@@ -21,12 +21,12 @@ due_in k (Runs t) = 0
 abbrev pub timed_step : Kernel → List Timed
 timed_step k = timed_by (due_in k) (step k).events
 
--- those of n steps
+-- the events of n steps, each with the tick at which its packet is due
 abbrev pub history : ℕ → Kernel → List Timed
 history zero k = []
 history (suc n) k = timed_step k ++ history n (step k).kernel
 
--- it holds of each of n steps, by the kernel before it
+-- P holds before each of n steps
 abbrev pub EachStep : (Kernel → Type 0) → ℕ → Kernel → Type 0
 EachStep P zero k = Unit {0}
 EachStep P (suc n) k = P k × EachStep P n (step k).kernel

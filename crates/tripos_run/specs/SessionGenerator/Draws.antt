@@ -28,7 +28,7 @@ plain text x = record { value = text; state = x }
 abbrev pub choosing : Drawing ℕ → (ℕ → Drawing (List ℕ)) → Drawing (List ℕ)
 choosing number choice x = let drawn = number x in choice drawn.value drawn.state
 
--- a text that was drawn, and behind it the one that is drawn next
+-- a text that was drawn, and after it the one that is drawn next
 abbrev pub with_next : Drawn (List ℕ) → Drawing (List ℕ) → Drawn (List ℕ)
 with_next before last =
     let drawn = last before.state in
