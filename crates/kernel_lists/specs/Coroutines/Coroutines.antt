@@ -45,12 +45,15 @@ pub record HasCoroutines (s : List ℕ) (t : ℕ) : Type 0 where
   pub task : HasTaskBlock s t
   -- the task block lies in no coroutine's block
   pub elsewhere : has task.first (coroutines_in s t) ≡ false
+  -- the links from the task block on lead through its coroutines
   pub list : HasList s coroutine_link coroutine_size (first_coroutine t)
   -- their words meet neither one another nor the task block
   pub apart : IsApart (node_words task_size t ++ words_of coroutine_size (coroutines_in s t))
+  -- each lies in a block of its size
   pub blocks : AllByRecursion (HasBlock s) (coroutines_in s t)
   -- the active ones are distinct, and each other one has the parent 0
   pub active : LeadsOut s t 0 (current_cell t) (active_in s t)
+  -- each active one is one of them
   pub members : AllByRecursion (λ c. has c (coroutines_in s t) ≡ true) (active_in s t)
   -- none of them is active twice
   pub distinct : IsApart (active_in s t)

@@ -42,8 +42,9 @@ pub record TakeExchange (s t : List ℕ) (u : ℕ) : Type 0 where
   pub exchange : Exchange (blocks_words (blocks_in s)) (blocks_words (blocks_in t)) (blocks_words free) (taken_words run (need u))
   -- these alone are written
   pub words : t ≡ written (taken_words run (need u)) s
-  -- they lie in the run, each at an address of its own
+  -- each has an address of its own
   pub once : AreApart (taken_words run (need u))
+  -- they lie in the run
   pub within : (a : ℕ) → 0 < owners a (taken_words run (need u)) → (run.start ≤ a) × (a < run.end)
 
 -- What a give exchanges: the size word of a used block for that of a free one.

@@ -20,14 +20,20 @@ image k = map (word_of k) (range_with_len 0 k.lists.size)
 
 -- the plain words are those of the store that nobody owns
 pub record HasPlainWords (k : Kernel) : Type 0 where
+  -- there is a place for each word of the store
   pub size : length k.plain ≡ k.lists.size
+  -- a word that nobody owns is plain
   pub plain : (a : ℕ) → a < k.lists.size → owners a (owned k.lists) ≡ 0 → (w : ℕ) × (plain_at k a ≡ Some w)
+  -- a word that is owned is none
   pub owned : (a : ℕ) → 0 < owners a (owned k.lists) → plain_at k a ≡ None
 
 -- The store is the kernel's image, word by word.
 pub record IsImage (s : List ℕ) (k : Kernel) : Type 0 where
+  -- the store has as many words as the lists say
   pub size : length s ≡ k.lists.size
+  -- each owned word is in it
   pub holds : Holds s (owned k.lists)
+  -- each other word is the kernel's plain one
   pub plain : (a : ℕ) → a < length s → owners a (owned k.lists) ≡ 0 → plain_at k a ≡ Some (slice_index s a)
 
 -- the words of a store that these lists do not own
