@@ -53,26 +53,26 @@ impl Refusal {
 }
 
 /// Reads a line by a template: what each of its entries is given, or the code of the refusal, after which all are unset.
-pub fn read_args(template: &[u8], line: &[u8], out: &mut [Arg; 8]) -> Result<(), u32>
+pub fn read_args(template: &[u8], line: &[u8], values: &mut [Arg; 8]) -> Result<(), u32>
     requires short { length line.now < 2 ^ 32 }
     ensures answer { let given = answer template.now line.now in
-        MatchResult result (λ _. given ≡ Ok out.new) (λ code. given ≡ Err code) }
-    ensures unset { OnErr result (out.new ≡ replicate 8 Unset) }
+        MatchResult result (λ _. given ≡ Ok values.new) (λ code. given ≡ Err code) }
+    ensures unset { OnErr result (values.new ≡ replicate 8 Unset) }
 {
-    *out = [Arg::Unset; 8];
-    let outcome = fill(template, line, out);
+    *values = [Arg::Unset; 8];
+    let outcome = fill(template, line, values);
     if outcome.is_err() {
-        *out = [Arg::Unset; 8];
+        *values = [Arg::Unset; 8];
     }
     outcome.map_err(|refusal| refusal.code())
 }
 
-// The same, where out comes with all entries unset and may be left with some set.
-fn fill(template: &[u8], line: &[u8], out: &mut [Arg; 8]) -> Result<(), Refusal>
+// The same, where all entries come unset, and some may be left set.
+fn fill(template: &[u8], line: &[u8], values: &mut [Arg; 8]) -> Result<(), Refusal>
     requires short { length line.now < 2 ^ 32 }
-    requires fresh { out.old ≡ replicate 8 Unset }
+    requires fresh { values.old ≡ replicate 8 Unset }
     ensures { let given = answer template.now line.now in
-        MatchResult result (λ _. given ≡ Ok out.new) (λ e. given ≡ Err (code_of e)) }
+        MatchResult result (λ _. given ≡ Ok values.new) (λ e. given ≡ Err (code_of e)) }
 {
     if !is_template(template) {
         return Err(Refusal::Template);
@@ -80,8 +80,8 @@ fn fill(template: &[u8], line: &[u8], out: &mut [Arg; 8]) -> Result<(), Refusal>
     if has_open_quote(line) {
         return Err(Refusal::OpenQuote);
     }
-    read_items(template, line, out)?;
-    if is_whole(template, out) {
+    read_items(template, line, values)?;
+    if is_whole(template, values) {
         Ok(())
     } else {
         Err(Refusal::Missing)
@@ -89,16 +89,16 @@ fn fill(template: &[u8], line: &[u8], out: &mut [Arg; 8]) -> Result<(), Refusal>
 }
 
 // Reads the items from left to right.
-fn read_items(template: &[u8], line: &[u8], out: &mut [Arg; 8]) -> Result<(), Refusal>
+fn read_items(template: &[u8], line: &[u8], values: &mut [Arg; 8]) -> Result<(), Refusal>
     requires short { length line.now < 2 ^ 32 }
     requires few { length (entries template.now) ≤ 8 }
-    ensures { let given = filled (entries template.now) line.now out.old None (items line.now) in
-        MatchResult result (λ _. given ≡ Ok out.new) (λ e. given ≡ Err (code_of e)) }
+    ensures { let given = filled (entries template.now) line.now values.old None (items line.now) in
+        MatchResult result (λ _. given ≡ Ok values.new) (λ e. given ≡ Err (code_of e)) }
 {
     let mut at = 0;
     let mut name = None;
     while let Some((item, after)) = next_item(line, at) {
-        name = read_item(template, line, name, item, out)?;
+        name = read_item(template, line, name, item, values)?;
         at = after;
     }
     if name.is_some() {
@@ -108,39 +108,39 @@ fn read_items(template: &[u8], line: &[u8], out: &mut [Arg; 8]) -> Result<(), Re
     }
 }
 
-// Reads an item behind a name that waits for its value, if there is one, and gives the name that waits then.
+// Reads an item after a name that waits for its value, if there is one, and gives the name that waits then.
 fn read_item(
     template: &[u8],
     line: &[u8],
     name: Option<usize>,
     item: Item,
-    out: &mut [Arg; 8],
+    values: &mut [Arg; 8],
 ) -> Result<Option<usize>, Refusal>
     requires place { (item.from ≤ item.to) × (item.to ≤ length line.now) }
     requires short { length line.now < 2 ^ 32 }
     requires few { length (entries template.now) ≤ 8 }
     requires name { IfSome name (λ k. k < 8) }
-    ensures value { let next = step (entries template.now) line.now out.old name item in
-        MatchResult result (λ k. next ≡ Ok (out.new, k)) (λ e. next ≡ Err (code_of e)) }
+    ensures value { let next = step (entries template.now) line.now values.old name item in
+        MatchResult result (λ k. next ≡ Ok (values.new, k)) (λ e. next ≡ Err (code_of e)) }
     ensures name { IfOk result (λ next. IfSome next (λ k. k < 8)) }
 {
     if let Some(k) = name {
-        out[k] = span(item);
+        values[k] = span(item);
         return Ok(None);
     }
     match role_of(template, line, item) {
         Role::SwitchName(k) => {
-            check_unset(out[k])?;
-            out[k] = Arg::Switch;
+            check_unset(values[k])?;
+            values[k] = Arg::Switch;
             Ok(None)
         }
         Role::EntryName(k) => {
-            check_unset(out[k])?;
+            check_unset(values[k])?;
             Ok(Some(k))
         }
         Role::NoName => {
-            let k = free_entry(template, out).ok_or(Refusal::Surplus)?;
-            out[k] = span(item);
+            let k = free_entry(template, values).ok_or(Refusal::Surplus)?;
+            values[k] = span(item);
             Ok(None)
         }
     }
@@ -168,27 +168,27 @@ fn check_unset(arg: Arg) -> Result<(), Refusal>
 }
 
 // The first unset entry that takes a value which stands alone.
-fn free_entry(template: &[u8], out: &[Arg; 8]) -> Option<usize>
-    ensures value { result ≡ position is_free (zip (entries template.now) out.now) }
+fn free_entry(template: &[u8], values: &[Arg; 8]) -> Option<usize>
+    ensures value { result ≡ position is_free (zip (entries template.now) values.now) }
     ensures small { IfSome result (λ k. k < 8) }
 {
     if template.is_empty() {
         return None;
     }
-    template.split(|c| *c == b',').zip(out.iter()).position(|(entry, arg)| is_unset(*arg)
+    template.split(|c| *c == b',').zip(values.iter()).position(|(entry, arg)| is_unset(*arg)
         && !(is_keyword(entry) || is_switch(entry)))
 }
 
 // Whether no required entry is unset.
-fn is_whole(template: &[u8], out: &[Arg; 8]) -> bool
-    ensures { result ≡ is_whole (entries template.now) out.now }
+fn is_whole(template: &[u8], values: &[Arg; 8]) -> bool
+    ensures { result ≡ is_whole (entries template.now) values.now }
 {
     if template.is_empty() {
         return true;
     }
     template
         .split(|c| *c == b',')
-        .zip(out.iter())
+        .zip(values.iter())
         .all(|(entry, arg)| !(is_required(entry) && is_unset(*arg)))
 }
 

@@ -12,4 +12,4 @@ unfolding arguments
 returns-clause-value c = search rules
 
 pub returns-clause-inside : goal.returns-clause-inside
-returns-clause-inside c = given-inside c.args.template.now c.args.line.now c.read_args.new.out c.in_ok-read_args.ensures.answer
+returns-clause-inside c = given-inside c.args.template.now c.args.line.now c.read_args.new.values c.in_ok-read_args.ensures.answer

@@ -13,6 +13,6 @@ returns c =
     let e = c.if-is_empty.ensures in
     let some : 1 ≤ length c.args.template.now = grind (arith, nat_tests) in
     all_from_yields_List (λ pair. not (lacks pair)) c.all.new.self _ c.all.result c.all.ensures.ran
-    (YieldsList-from_zip (YieldsList-at c.zip.ensures.first (YieldsList-from_slice_split _ (λ b. b == 44) c.args.template.now (cc) (cc) (cc) (λ x b q k. search (rules, tests)))) (YieldsList-at c.zip.ensures.second (YieldsList-from_slice c.args.out.now cc)))
+    (YieldsList-from_zip (YieldsList-at c.zip.ensures.first (YieldsList-from_slice_split _ (λ b. b == 44) c.args.template.now (cc) (cc) (cc) (λ x b q k. search (rules, tests)))) (YieldsList-at c.zip.ensures.second (YieldsList-from_slice c.args.values.now cc)))
     (λ x b q k. search (rules, tests))
-    ∙ ap (λ all. is_whole all c.args.out.now) (sym (entries-split c.args.template.now some))
+    ∙ ap (λ all. is_whole all c.args.values.now) (sym (entries-split c.args.template.now some))

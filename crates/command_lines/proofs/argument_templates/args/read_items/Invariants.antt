@@ -9,8 +9,8 @@ abbrev pub invariant-loop-item : goal.invariant-loop-item
 invariant-loop-item l = record {
   inside : l.at ≤ length l.line;
   named : IfSome l.name (λ k. k < 8);
-  left : filled (entries l.template) l.line l.out l.name (items_from l.at (drop l.at l.line))
-      ≡ filled (entries l.template) l.line l.initial.out None (items l.line);
+  left : filled (entries l.template) l.line l.values l.name (items_from l.at (drop l.at l.line))
+      ≡ filled (entries l.template) l.line l.initial.values None (items l.line);
 }
 
 abbrev pub decreases-loop-item : goal.decreases-loop-item
