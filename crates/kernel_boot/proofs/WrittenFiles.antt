@@ -9,7 +9,7 @@ use Rattle.std.proofs.lemmas.List.Elements.{filter-append}
 use Rattle.std.proofs.lemmas.List.Sums.{sum_by-append, sum_by-cons}
 use Rattle.ram_disc.specs.Disc.{Disc, File, bytes_of, has_name, is_before, most_sectors, sectors_of, sectors_taken}
 use Rattle.ram_disc.specs.DiscCalls.{Outcome, after_append, file, has_room, unless_refused, with_file, with_more, with_stream, writer}
-use Rattle.module_text.proofs.TextReader.EqualTexts.{bytes_eq-self}
+use Rattle.word_store.proofs.EqualTexts.{bytes_eq-self}
 use Rattle.ram_disc.proofs.NameOrder.{bytes_eq-other, is_before-back, is_before-differ, is_before-self}
 use Rattle.kernel_boot.specs.BootFiles.{IsAppended, writing}
 

@@ -1,4 +1,3 @@
-pub mod EqualTexts
 pub mod FieldLemmas
 pub mod LineEnds
 pub mod NumberLemmas

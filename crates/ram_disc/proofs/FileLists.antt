@@ -4,7 +4,7 @@ use Rattle.std.specs.List.{AllByRecursion, filter, find, insert, list_any, remov
 use Rattle.std.specs.Str.{bytes_eq}
 use Rattle.ram_disc.specs.Disc.{AreInOrder, File, has_name, is_before}
 use Rattle.ram_disc.specs.DiscCalls.{with_file, without_file}
-use Rattle.module_text.proofs.TextReader.EqualTexts.{bytes_eq-self}
+use Rattle.word_store.proofs.EqualTexts.{bytes_eq-self}
 use Rattle.ram_disc.proofs.NameOrder.{all-get_or, bytes_eq-other, get_or-all, is_before-back, is_before-differ, is_before-self}
 
 abbrev pub names_of : List File → List (List ℕ)

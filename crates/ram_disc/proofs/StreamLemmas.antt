@@ -10,7 +10,7 @@ use Rattle.ram_disc.specs.Contents.{Area}
 use Rattle.ram_disc.specs.Disc.{Disc, Stream, is_on, is_used, is_writer_of, is_written, stream_at}
 use Rattle.ram_disc.specs.Slots.{AreKept, AreSlots, IsAt, StandsAt, name_in, place_in, stands_on, stream_in, streams_in, writes_on}
 use Rattle.ram_disc.specs.declared.places.Place.{Place}
-use Rattle.module_text.proofs.TextReader.EqualTexts.{bytes_eq-self}
+use Rattle.word_store.proofs.EqualTexts.{bytes_eq-self}
 use Rattle.ram_disc.proofs.NameOrder.{bytes_eq-other}
 use Rattle.ram_disc.proofs.SlotLemmas.{at-times, slots-distinct}
 

@@ -3,3 +3,4 @@ pub mod Rows
 pub mod Wide
 pub mod Counts
 pub mod Elements
+pub mod EqualTexts

@@ -16,7 +16,7 @@ use Rattle.assembly.specs.declared.assembly_text.statements.Line.{Line}
 use Rattle.assembly.specs.declared.assembly_text.statements.Statement.{Statement}
 use Rattle.assembly.proofs.AssemblyText.ProgramLemmas.{ComeNext, layout_after, size_later}
 use Rattle.assembly.proofs.AssemblyText.SurveyLemmas.{ComesNext}
-use Rattle.module_text.proofs.TextReader.EqualTexts.{bytes_eq-self}
+use Rattle.word_store.proofs.EqualTexts.{bytes_eq-self}
 
 abbrev line_with : Option (List ℕ) → Statement → Line
 line_with label statement = record { label = label; statement = statement }

@@ -8,7 +8,7 @@ use Rattle.std.proofs.lemmas.List.{get_or-set_other, get_or-set_same, length-set
 use Rattle.std.proofs.lemmas.List.Quantifiers.{position-Some}
 use Rattle.std.proofs.lemmas.Slice.Eq.{bytes_eq-Decides}
 use Rattle.ram_disc.specs.Name.{IsName}
-use Rattle.module_text.proofs.TextReader.EqualTexts.{bytes_eq-self}
+use Rattle.word_store.proofs.EqualTexts.{bytes_eq-self}
 use Rattle.kernel_model.specs.KernelRecord.Kernel.{Pipe}
 use Rattle.kernel_model.specs.KernelRecord.Pipes.{ArePipes, IsPipe, most_held, pipe_at}
 use Rattle.resident_tasks.specs.PipeHandler.Ends.{closed, is_named, opened, place_for, without_end}

@@ -10,7 +10,7 @@ use Rattle.std.proofs.lemmas.List.{drop_all, map-append}
 use Rattle.std.proofs.lemmas.Slice.Eq.{bytes_eq-Decides}
 use Rattle.ram_disc.specs.Disc.{AreInOrder, Disc, File, IsDisc, file_named, has_name, is_before}
 use Rattle.ram_disc.specs.DiscCalls.{nth_of}
-use Rattle.module_text.proofs.TextReader.EqualTexts.{bytes_eq-self}
+use Rattle.word_store.proofs.EqualTexts.{bytes_eq-self}
 use Rattle.ram_disc.proofs.NameOrder.{bytes_eq-other, is_before-differ}
 use Rattle.saved_text.specs.SavedLines.Canonical.{statement_text}
 use Rattle.saved_text.proofs.SavedLines.LineFields.{Some-same}
