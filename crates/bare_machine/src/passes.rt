@@ -9,7 +9,7 @@ ghost use Rattle.bare_machine.specs.Step.{unmarked};
 use instruction_set::{NoKernel, Outcome, execute, execute_alone, has_breakpoint};
 use word_store::{Regs, Store};
 
-/// Executes at most so many instructions, and stops before what is none, and behind the first before a breakpoint. The answer is how
+/// Executes at most so many instructions, and stops before what is none, and after the first before a breakpoint. The answer is how
 /// many these are; `calls` says whether the next one is known to be a call. A fault is not kept, so that the loops have few words to
 /// carry.
 #[inline(always)]

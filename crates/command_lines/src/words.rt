@@ -12,7 +12,7 @@ pub fn first_word(line: &[u8]) -> &[u8]
     &begun[..length_before(b' ', begun)]
 }
 
-/// What stands behind the first word.
+/// What comes after the first word.
 pub fn rest_of(line: &[u8]) -> &[u8]
     ensures value { result.now ≡ rest_of line.now }
     ensures short { length result.now ≤ length line.now }

@@ -16,8 +16,8 @@ pub fn order_law()
         → order_of n line ≡ Err (bad n 1) }
 {}
 
-/// Steps up to a breakpoint: at most all, and one at least where one may be taken; behind none of them but the last is there a
-/// breakpoint or a stop; and behind the last, where they are not all.
+/// Steps up to a breakpoint: at most all, and one at least where one may be taken; after none of them but the last is there a
+/// breakpoint or a stop; and after the last, where they are not all.
 pub fn steps_law()
     ensures most { (stops : List ℕ) (n : ℕ) (s : State) → steps_to stops n s ≤ n }
     ensures some { (stops : List ℕ) (n : ℕ) (s : State) → 0 < n → 0 < steps_to stops n s }

@@ -78,7 +78,7 @@ fn block_size(reporter: bool) -> u32
     if reporter { 116 } else { 88 }
 }
 
-// Writes the size words of the residents' block and of the free block behind it.
+// Writes the size words of the residents' block and of the free block after it.
 fn write_blocks(store: &mut Store, block: u32)
     requires room { 202 + block ≤ length store.old }
     requires small { block ≤ 116 }

@@ -18,7 +18,7 @@ use word_store::Store;
 /// A task has the number already.
 const TASK_THERE: u32 = 27;
 
-/// The maker of a task that no task has made.
+/// The number of the maker, where no task has made a task.
 const NO_MAKER: u32 = 0;
 
 /// Starts the tasks of a session's lines, in the order of the lines: each is ready, and begins at its function once it is its

@@ -24,7 +24,7 @@ pub(crate) struct LinkParts {
     pub(crate) sender: Sender,
     /// How many bytes were acknowledged at it.
     pub(crate) acknowledged: u64,
-    /// The data in flight, each byte behind its number.
+    /// The data in flight, each byte after its number.
     pub(crate) packets: HeapCircularBuffer<(u64, u8)>,
     /// The end that receives.
     pub(crate) receiver: Receiver,

@@ -50,7 +50,7 @@ fn link_of(alloc: Global, input: &RingInput) -> Result<LinkParts, WantMemory>
     LinkParts::new(alloc, terms)
 }
 
-// The machine of a session whose lines stand behind so many others.
+// The machine of a session whose lines come after so many others.
 fn boot_behind(alloc: Global, before: u32, session: &Session) -> Result<Machine, BootEnd>
     requires lawful { IsLawful session.now }
     requires fit { FitBehind before session.now.lines }

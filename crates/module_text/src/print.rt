@@ -9,7 +9,7 @@ use crate::grammar::{END, HUNK, RELOCATIONS};
 use crate::{Hunk, Module};
 use byte_streams::{Output, Piece, Sink, SinkFault, gather_pieces, pass_on};
 
-/// How many words stand on a line.
+/// How many words a line has.
 const WORDS_A_LINE: usize = 8;
 
 /// Writes the text of a module: for each hunk a line with its type and its length and then its words, eight a line; then,

@@ -76,7 +76,7 @@ impl Contents {
         sectors_for(size + more) <= sectors_for(size) + u32::from(self.sectors.left())
     }
 
-    /// Adds bytes behind those of a slot.
+    /// Adds bytes after those of a slot.
     pub(crate) fn append(&mut self, slot: usize, bytes: &[u8])
         requires slot { slot < most_files }
         requires slots { length self.old.bytes ≡ most_files }
@@ -93,7 +93,7 @@ impl Contents {
         }
     }
 
-    // Adds bytes behind those of a slot, for which one sector has room.
+    // Adds bytes after those of a slot, for which one sector has room.
     fn push(&mut self, slot: usize, bytes: &[u8])
         requires slot { slot < most_files }
         requires some { 0 < length bytes.now }

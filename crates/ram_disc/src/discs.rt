@@ -18,7 +18,7 @@ use byte_streams::WantMemory;
 use std::alloc::Global;
 use std::marker::Model;
 
-/// One more than the most files, up to which a walk goes that looks at the k-th.
+/// One more than the most files: before it ends a walk over the files, which are counted from 1.
 pub const END_OF_FILES: u32 = 65;
 
 /// One more than the number of the last stream.
@@ -202,7 +202,7 @@ impl Disc {
         Ok(count as u32)
     }
 
-    /// Writes bytes behind those of the file of a stream that writes. Refused where no such stream is open to write (46), and
+    /// Writes bytes after those of the file of a stream that writes. Refused where no such stream is open to write (46), and
     /// where the files would take more than 4,096 sectors (43).
     pub fn append(&mut self, stream: u32, bytes: &[u8]) -> Result<(), u32>
         requires { length bytes.now ≤ 4096 }

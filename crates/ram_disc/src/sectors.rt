@@ -34,7 +34,7 @@ const NO_SECTOR: Chain = Chain {
 };
 
 impl Chain {
-    // The sector whose link leads to this one, where it comes behind the last one of the chain; it is this one itself
+    // The sector whose link leads to this one, where it comes after the last one of the chain; it is this one itself
     // where the chain has none.
     fn before(self, sector: u16) -> u16
         ensures { result ≡ sector_before self sector }
@@ -42,7 +42,7 @@ impl Chain {
         if self.length == 0 { sector } else { self.last }
     }
 
-    // The chain with this sector behind its last one.
+    // The chain with this sector after its last one.
     fn with_last(self, sector: u16) -> Chain
         requires { self.length < most_sectors }
         ensures { result ≡ with_last self sector }
@@ -99,7 +99,7 @@ impl Sectors {
         self.left
     }
 
-    /// Adds a sector to the chain of a slot, behind its last one.
+    /// Adds a sector to the chain of a slot, after its last one.
     pub(crate) fn grow(&mut self, slot: usize) -> u16
         requires slot { slot < most_files }
         requires room { 0 < self.old.left }

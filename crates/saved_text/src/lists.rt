@@ -55,7 +55,7 @@ impl Files {
         Ok(())
     }
 
-    /// Whether a file of this name may stand behind them.
+    /// Whether a file of this name may come after them.
     pub fn are_before(&self, name: &[u8]) -> bool
         ensures { result ≡ is_behind self.now name.now }
     {
@@ -90,7 +90,7 @@ fn is_before(a: &[u8], b: &[u8]) -> bool
     a.cmp(b).is_lt()
 }
 
-// The file with the bytes that these digits are behind its bytes.
+// The file with the bytes that these digits are after its bytes.
 fn with_more(alloc: Global, file: SavedFile, digits: &[u8]) -> Result<SavedFile, TextEnd>
     requires { IsTrue (is_hex digits.now) }
     ensures { Gives (λ f. f) result (Ok (with_more file (bytes_of digits.now))) }

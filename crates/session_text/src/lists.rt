@@ -40,7 +40,7 @@ impl Bytes {
         self.list.as_slice()
     }
 
-    /// A line of text behind the bytes, with an LF.
+    /// A line of text after the bytes, with an LF.
     pub fn with_line(self, text: &[u8]) -> Result<Bytes, TextEnd>
         ensures { Gives (λ b. b) result (Ok (self ++ (text.now ++ 10 ∷ []))) }
     {

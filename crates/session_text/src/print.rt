@@ -156,7 +156,7 @@ fn print_file<K: Sink>(name: &Name, bytes: &[u8], out: &mut K) -> Result<(), Sin
     print_text(bytes, out)
 }
 
-// Writes the lines of a text, each behind a colon.
+// Writes the lines of a text, each after a colon.
 fn print_text<K: Sink>(text: &[u8], out: &mut K) -> Result<(), SinkFault>
     ensures text { let text = text_of_lines (map colon_line (lines_of text.now)) in
         PrintsTo K.Sink out.old out.new text result }
@@ -200,7 +200,7 @@ fn print_task<K: Sink>(
     write_pieces(out, &[Piece::Text(b"\n")])
 }
 
-// Writes names, each behind a blank.
+// Writes names, each after a blank.
 fn print_names<K: Sink>(names: &[Name], out: &mut K) -> Result<(), SinkFault>
     ensures text { PrintsTo K.Sink out.old out.new (names_text names.now) result }
     ensures cause { FailsBySink K.Sink out.old out.new result }

@@ -26,7 +26,7 @@ pub enum Command {
     Asm,
     /// List the module.
     Disasm,
-    /// Run the session, by the debugger's lines behind it.
+    /// Run the session, by the debugger's lines after it.
     Debug,
     /// Run the session, and write its machine as a text.
     Save,

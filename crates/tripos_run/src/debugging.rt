@@ -24,7 +24,7 @@ use session_text::{BootEnd, Session, read_front};
 use std::alloc::Global;
 use tripos_machine::{Machine, boot};
 
-/// Boots the session at the front of a text, and does with its machine what the lines behind it ask for. They are checked before.
+/// Boots the session at the front of a text, and does with its machine what the lines after it ask for. They are checked before.
 pub(crate) fn answer_debugging<K: Sink>(alloc: Global, text: &[u8], out: &mut K) -> Status
     requires { length text.now < 2 ^ 30 }
     ensures answer { Answers (debugging_answer text.now) (K.holds out.old) (K.holds out.new) result }
@@ -43,7 +43,7 @@ pub(crate) fn answer_debugging<K: Sink>(alloc: Global, text: &[u8], out: &mut K)
     }
 }
 
-// The text behind a place.
+// The text after a place.
 fn text_behind(place: usize, text: &[u8]) -> &[u8]
     requires { place ≤ length text.now }
     ensures { result.now ≡ drop place text.now }

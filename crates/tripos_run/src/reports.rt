@@ -5,7 +5,7 @@
 pub enum Report {
     /// The console bytes.
     Console,
-    /// The console bytes, and behind the closing line the words of the store that are not 0.
+    /// The console bytes, and after the closing line the words of the store that are not 0.
     Words,
     /// A line for each event of the kernel.
     Events,

@@ -4,7 +4,7 @@ ghost use Rattle.assembly.specs.AssemblyText.Places.{closing_size, end_of, first
 
 use crate::assembly_text::statements::{Boundary, Statement};
 
-/// Code begins behind the word that has the hunk's length.
+/// Code begins after the word that has the hunk's length.
 pub const FIRST_OFFSET: u32 = 4;
 
 /// The most words of a hunk.

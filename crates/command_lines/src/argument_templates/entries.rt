@@ -49,7 +49,7 @@ pub fn is_required(entry: &[u8]) -> bool
     qualifiers(entry).contains(&b'A')
 }
 
-/// Whether the entry takes a value behind its name alone.
+/// Whether the entry takes a value after its name alone.
 pub fn is_keyword(entry: &[u8]) -> bool
     ensures { result ≡ is_keyword entry.now }
 {

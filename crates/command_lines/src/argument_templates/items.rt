@@ -14,7 +14,7 @@ pub enum Form {
     Word,
     /// Bytes between quotes.
     Quoted,
-    /// Bytes behind a quote that no other closes.
+    /// Bytes after a quote that no other closes.
     Open,
 }
 
@@ -25,7 +25,7 @@ pub struct Item {
     pub form: Form,
     /// The place of its first byte.
     pub from: usize,
-    /// The place behind its last byte.
+    /// The place after its last byte.
     pub to: usize,
 }
 
@@ -63,7 +63,7 @@ pub fn has_open_quote(line: &[u8]) -> bool
     false
 }
 
-// The item behind a quote, and the place after the quote that closes it.
+// The item after a quote, and the place after the quote that closes it.
 fn quoted_item(line: &[u8], from: usize) -> (Item, usize)
     requires { from ≤ length line.now }
     ensures value { items_in (in_quotes from) from (drop from line.now)

@@ -18,6 +18,6 @@ pub enum Form {
     /// Twice the next byte leads from its address, rounded down to even, to a halfword, and that halfword, as a
     /// signed number, leads from its own address to the target.
     Indirect,
-    /// In a table of halfwords, from the first even address behind the function byte on.
+    /// In a table of halfwords, from the first even address after the function byte on.
     Switch,
 }

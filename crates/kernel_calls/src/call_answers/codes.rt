@@ -48,7 +48,7 @@ pub const NOT_HELD: u32 = 15;
 /// The task is held already.
 pub const HELD_ALREADY: u32 = 16;
 
-/// No module stands there.
+/// There is no module at the address.
 pub const NO_MODULE: u32 = 17;
 
 /// A hunk of the module has a higher number of a global than there are.

@@ -37,7 +37,7 @@ pub fn deleteco<Q: KindKeeper>(store: &mut Store, kinds: &mut Q, c: u32) -> Resu
     Ok(())
 }
 
-// Whether nobody owns the words of the block at c that come behind a coroutine's own.
+// Whether nobody owns the words of the block at c that come after a coroutine's own.
 fn is_clear_behind<Q: KindKeeper>(store: &Store, kinds: &Q, c: u32) -> bool
     requires { (l : Lists) × (b : Block)
         × HasKeeper store.now (Q.tells kinds.now) (Q.room kinds.now) l × IsRoomy l c b }

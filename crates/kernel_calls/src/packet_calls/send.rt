@@ -81,7 +81,7 @@ fn is_lodged(store: &Store, p: u32) -> bool
     }
 }
 
-// Whether the block, of whose data word p is one, is used and has four more behind it.
+// Whether the block, of whose data word p is one, is used and has four more after it.
 fn has_packet_words(block: Block, p: u32) -> bool
     requires { has_data block p ≡ true }
     ensures { result ≡ (not block.free && has_data block (p + 4)) }

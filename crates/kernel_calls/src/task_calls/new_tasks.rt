@@ -75,7 +75,7 @@ fn clear_words(store: &mut Store, a: u32, last: u32)
     set_word_at(store, a, last, 0);
 }
 
-// Writes the words of a task block, and global 0 behind them, where all words are 0.
+// Writes the words of a task block, and global 0 after them, where all words are 0.
 fn write_head(store: &mut Store, t: u32, number: u32, modules: &[u32], u: u32, pri: u32, maker: u32)
     requires inside { t + head_words store.old + 1001 ≤ length store.old }
     requires some { 1 ≤ length modules.now }

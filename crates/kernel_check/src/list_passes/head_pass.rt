@@ -19,7 +19,7 @@ use kernel_model::numbers::{GLOBAL_WORDS, RESIDENT_WORDS};
 use word_store::Store;
 
 /// Whether the words of tasks stand that follow from others: the bit of the queue, the addresses of stack and globals, the zeros
-/// behind a guest's modules, and the fixed words of coroutines.
+/// after a guest's modules, and the fixed words of coroutines.
 pub fn heads_stand(store: &Store) -> bool
     requires claimed { IsClaimed store.now }
     requires own { AllByRecursion (OwnsCoroutines store.now) (tasks_in store.now) }
@@ -102,7 +102,7 @@ fn globals_of(store: &Store, t: u32) -> u64
     }
 }
 
-// Whether no module stands behind a first word that is 0.
+// Whether no module comes after a first word that is 0.
 fn first_stands(store: &Store, t: u32) -> bool
     requires can { CanPass store.now t }
     ensures { IsTrue result ↔
@@ -143,7 +143,7 @@ fn further_stand(store: &Store, t: u32) -> bool
     are_dense(further)
 }
 
-// Whether each word behind one that is 0 is 0.
+// Whether each word after one that is 0 is 0.
 fn are_dense(words: &[u32]) -> bool
     ensures { IsTrue result ↔ IsDense words.now }
 {

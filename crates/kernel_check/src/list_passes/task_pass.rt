@@ -20,7 +20,7 @@ use kernel_model::numbers::{CONSOLE, FILE_HANDLER, REPORTER, SHELL};
 use store_claims::Claims;
 use word_store::Store;
 
-/// More tasks than this have no number each for itself.
+/// Of so many tasks two would have the same number.
 const MOST_TASKS: u32 = 64;
 
 /// Whether each task is as it must be, no two have one number, priorities fall, and all residents are there or none is.

@@ -22,7 +22,7 @@ pub struct Block {
 pub struct Run {
     /// The address of its first word.
     pub start: u32,
-    /// The address behind its last word.
+    /// The address after its last word.
     pub end: u32,
 }
 

@@ -24,7 +24,7 @@ pub(crate) fn place_module<X: TextBytes>(text: &X, store: &mut Store, m: u32, li
     place_hunks(text, store, m, count);
 }
 
-// Puts the lengths of the hunks and their words behind the first two words of a module.
+// Puts the lengths of the hunks and their words after the first two words of a module.
 fn place_hunks<X: TextBytes>(text: &X, store: &mut Store, m: u32, count: u32)
     requires { (hunks : Module) × FitsAt (X.text text.now) store.old m count hunks }
     ensures { (hunks : Module) → FitsAt (X.text text.now) store.old m count hunks
@@ -47,7 +47,7 @@ fn place_hunks<X: TextBytes>(text: &X, store: &mut Store, m: u32, count: u32)
 struct ReadHunk {
     /// How many words it has.
     length: u32,
-    /// The place behind its items in the text.
+    /// The place after its items in the text.
     end: u32,
 }
 

@@ -8,7 +8,7 @@ ghost use Rattle.kernel_lists.specs.LinkedList.Walk.{CanWalk};
 use crate::linked_list::walk::follow;
 use word_store::{Store, set_word_at, word, word_at};
 
-/// Links the node p behind the word `cell`: it leads where that word led, and that word leads to it.
+/// Links the node p after the word `cell`: it leads where that word led, and that word leads to it.
 pub fn link_in(store: &mut Store, cell: u32, p: u32, offset: u32)
     ensures { store.new ≡ linked_in store.old (λ q. q + offset) cell p }
 {

@@ -9,7 +9,7 @@ use crate::packet_queue::places::last_link;
 use crate::packet_queue::walk::PACKET_LINK;
 use word_store::{Store, word};
 
-/// The link of a packet that stands in no queue.
+/// The link of a packet that is on no queue.
 pub const NO_QUEUE: u32 = 0xffff_ffff;
 
 /// Puts the packet at the end of the queue.

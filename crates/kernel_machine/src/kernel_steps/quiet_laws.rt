@@ -39,7 +39,7 @@ pub fn idle_law()
 {}
 
 /// Where a guest runs, a quiet step is its instruction and no more. It leaves a valid kernel, and the quiet span goes on
-/// behind it. Where the step is no tick, the ticks stay, and the store is the one that the instruction left.
+/// after it. Where the step is no tick, the ticks stay, and the store is the one that the instruction left.
 pub fn guest_law()
     ensures step { (k : Kernel) → IsValid k → k.stop ≡ None
         → is_guest_id k.lists.running ≡ true

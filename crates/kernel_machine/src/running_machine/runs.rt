@@ -15,7 +15,7 @@ use kernel_lists::{EventLog, FIRST_GUEST};
 
 impl Machine {
     /// Takes some steps, at most `most`, of a machine that has not stopped, of which only the last one may write bytes, have events
-    /// or stop the machine. The answer is how many these are: it takes no step behind one that leaves the running guest's next
+    /// or stop the machine. The answer is how many these are: it takes no step after one that leaves the running guest's next
     /// instruction at a breakpoint. The list of its keys stays.
     pub fn advance<L: EventLog>(&mut self, most: u64, breakpoints: &[u32], log: &mut L) -> u64
         requires goes { self.old.kernel.stop ≡ None }

@@ -133,7 +133,7 @@ fn wait(parts: &mut Parts, steps: u64)
     }
 }
 
-// Executes at most so many instructions of the running guest, and stops before what is none, and behind one that leads to a
+// Executes at most so many instructions of the running guest, and stops before what is none, and after one that leads to a
 // breakpoint. The answer is how many it executed.
 fn execute(parts: &mut Parts, most: u64, breakpoints: &[u32]) -> u64
     requires whole { IsWhole parts.old None }
@@ -172,7 +172,7 @@ fn up_to_tick(parts: &Parts) -> u64
 }
 
 // Executes at most so many instructions of the running guest, of which the clock ticks in the last one at most, and stops before
-// what is none, and behind one that leads to a breakpoint. The answer is how many it executed, and they are still to be counted.
+// what is none, and after one that leads to a breakpoint. The answer is how many it executed, and they are still to be counted.
 fn execute_some(parts: &mut Parts, most: u64, breakpoints: &[u32]) -> u64
     requires way { (k : Kernel) × (n : ℕ) × (m : ℕ) × IsOnWay k n m parts.old × (most ≤ m)
         × (k.steps + (n + m) ≤ most_steps) }
@@ -213,7 +213,7 @@ fn execute_uncounted(parts: &mut Parts, most: u64) -> u64
     most
 }
 
-// The same with breakpoints: it stops behind the first instruction that leads to one. An instruction is a call here, so that it
+// The same with breakpoints: it stops after the first instruction that leads to one. An instruction is a call here, so that it
 // stays part of the loop without breakpoints.
 #[inline(never)]
 fn execute_to_breakpoint(parts: &mut Parts, most: u64, breakpoints: &[u32]) -> u64

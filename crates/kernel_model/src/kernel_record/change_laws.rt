@@ -25,7 +25,7 @@ ghost use Rattle.kernel_model.specs.KernelRecord.ValidQueues.Place.{Work};
 ghost use Rattle.kernel_model.specs.KernelRecord.ValidTasks.{CoroutinesStand, IsCoroutine, IsTask};
 ghost use Rattle.kernel_model.specs.KernelRecord.Versions.{head_words_of};
 
-/// A block is taken: the lists are valid with it, its data begin behind the front of the run, and nobody owns them.
+/// A block is taken: the lists are valid with it, its data begin after the front of the run, and nobody owns them.
 pub fn taken_law()
     ensures valid { (l : Lists) (u : ℕ) → AreValid l
         → AreValid (with_blocks (taken (need u) l.blocks) l) }

@@ -21,7 +21,7 @@ pub const CLOCK: u32 = 0xffff_ffff;
 /// The number of the keyboard, -2.
 pub const KEYBOARD: u32 = 0xffff_fffe;
 
-/// The same number with its sign, as it stands in events and as a destination.
+/// The same number with its sign, as events and destinations have it.
 pub const SIGNED_KEYBOARD: i32 = -2;
 
 /// The number of the output device, -3.
@@ -30,16 +30,16 @@ pub const OUTPUT: u32 = 0xffff_fffd;
 /// The number of the queue of the console's reads that wait for a line.
 pub const PENDING: u32 = 103;
 
-/// The state of a task that runs, and is not held and has no packets.
+/// The state of a task that runs. A state has 1 more where packets wait, and 2 more while the task is held.
 pub const RUNS: u32 = 0;
 
-/// That of one that waits. Larger ones below that of one that was interrupted say besides that packets wait, or that it is held.
+/// The state of a task that waits.
 pub const WAITS: u32 = 4;
 
-/// That of one that was interrupted.
+/// The state of a task that was interrupted.
 pub const INTERRUPTED: u32 = 8;
 
-/// That of a dead one. Each other state of one that is dead is larger, and all other states are smaller.
+/// The state of a dead task. No state of any other task is as large.
 pub const DEAD: u32 = 12;
 
 /// What is added to the state of a task while it is held.
@@ -66,7 +66,7 @@ pub const FAULT_KIND: u32 = 40;
 /// The word of a task block that has the code of the task's fault: 0 where it had none, and 256 more once it was reported.
 pub const FAULT_WORD: TcbField = TcbField::Extra1;
 
-/// By so much that word is larger once the fault was reported; the codes are smaller.
+/// What is added to that word once the fault was reported. Each code is smaller.
 pub const REPORTED: u32 = 256;
 
 /// The word of a task block that has the address of that fault.

@@ -24,7 +24,7 @@ const ROOT: u32 = 100;
 
 const ROOT_WORDS: u32 = 84;
 
-/// How many words the head of the reads that wait for a line and the key packet behind it have.
+/// How many words there are of the head of the reads that wait for a line, and of the key packet after it.
 const CONSOLE_WORDS: u32 = 9;
 
 /// Is shown ranges of words, one after the other.

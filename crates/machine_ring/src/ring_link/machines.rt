@@ -24,7 +24,7 @@ pub fn read_left(alloc: Global, text: &[u8]) -> Result<(Session, &[u8], u32), Te
     Ok((front.session, rest, front.lines))
 }
 
-// The text behind a place.
+// The text after a place.
 fn text_behind(place: usize, text: &[u8]) -> &[u8]
     requires { place ≤ length text.now }
     ensures { result.now ≡ drop place text.now }
@@ -75,7 +75,7 @@ fn third_line(text: &[u8]) -> Option<&[u8]>
     Some(line)
 }
 
-/// Why a text behind so many lines is refused, with the line in the whole.
+/// Why a text after so many lines is refused, with the line in the whole.
 pub fn end_behind(before: u32, end: TextEnd) -> TextEnd
     requires { IsUpTo (2 ^ 32 - 1 - before) end }
     ensures { result ≡ end_behind before end }

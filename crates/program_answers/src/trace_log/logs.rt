@@ -15,7 +15,7 @@ use std::snapshot::Snapshot;
 /// A log that gathers a line for each event, in the words that it is given, and writes them to a sink when it has 8,192 bytes of
 /// them. Where a write fails, the next note fails.
 ///
-/// It tells its events after marks, which say which reference it writes to, what stood behind it at first, and what its words tell.
+/// It tells its events after marks, which say which reference it writes to, what its sink held at first, and what its words tell.
 /// What it tells only grows. So a call that is generic over its log leaves the log with its sink, and says which lines it was given:
 /// `print_events` shows how a caller learns from this what the sink holds.
 #[derive(Drop)]

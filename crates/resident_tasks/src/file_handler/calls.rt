@@ -11,7 +11,7 @@ pub(crate) enum FileCall {
     OpenToWrite,
     /// Type 12: the next bytes of a stream go into a buffer.
     ReadOn,
-    /// Type 13: the bytes of a buffer go behind those of a stream's file.
+    /// Type 13: the bytes of a buffer go after those of a stream's file.
     Append,
     /// Type 14: the stream is closed.
     Close,

@@ -53,7 +53,7 @@ pub(crate) fn rename(disc: &mut Disc, store: &Store, request: Request) -> Result
     Ok(0)
 }
 
-/// Puts the name of the file whose place is the first argument into `bytes`, as a string with zeros behind it, for the buffer at the
+/// Puts the name of the file whose place is the first argument into `bytes`, as a string with zeros after it, for the buffer at the
 /// second one. The answer is the file's size. Refused where there is no such file (41), or the buffer is bad (48).
 pub(crate) fn examine<Q: KindKeeper>(
     disc: &Disc,

@@ -1,4 +1,4 @@
-// Bytes are put behind those of a buffer.
+// Bytes are put after those of a buffer.
 ghost use Rattle.std.specs.Prelude.{◌≡◌, ◌+◌, ◌≤◌, ◌++◌, length, replicate};
 ghost use Rattle.arrayvec.specs.ArrayVec.{array_vec_len};
 
@@ -7,7 +7,7 @@ use arrayvec::ArrayVec;
 /// How many zeros are put at once.
 const ZEROS: usize = 64;
 
-/// Puts these bytes behind those that are there.
+/// Puts these bytes after those that are there.
 pub(crate) fn put_all(bytes: &mut ArrayVec<u8, 4096>, more: &[u8])
     requires { array_vec_len bytes.old + length more.now ≤ 4096 }
     ensures items { bytes.new.items ≡ bytes.old.items ++ more.now }
@@ -16,7 +16,7 @@ pub(crate) fn put_all(bytes: &mut ArrayVec<u8, 4096>, more: &[u8])
     bytes.try_extend_from_slice(more).unwrap();
 }
 
-/// Puts so many zeros behind them.
+/// Puts so many zeros after them.
 pub(crate) fn put_zeros(bytes: &mut ArrayVec<u8, 4096>, count: usize)
     requires { array_vec_len bytes.old + count ≤ 4096 }
     ensures { bytes.new.items ≡ bytes.old.items ++ replicate count 0 }

@@ -59,7 +59,7 @@ fn read_bytes(
     Ok(read)
 }
 
-/// Writes the bytes of the buffer at the second argument, of which the third one is the number, behind those of the file of the stream
+/// Writes the bytes of the buffer at the second argument, of which the third one is the number, after those of the file of the stream
 /// that is the first one. On their way they are in `bytes`. The answer is their number. Refused where the stream is none that writes
 /// (46), the buffer is bad (48), or the disc is full (43).
 pub(crate) fn append(

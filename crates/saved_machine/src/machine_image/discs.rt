@@ -12,7 +12,7 @@ use saved_text::Image;
 use std::alloc::Global;
 
 /// The disc with the files and the open streams of a saved machine, or `None` exactly where these are no valid disc: there are
-/// more than 64 files, they take more than 4,096 sectors, or a stream is open on no file, behind its end, or beside another one
+/// more than 64 files, they take more than 4,096 sectors, or a stream is open on no file, after its end, or beside another one
 /// where one of them writes, writes anywhere but at its end, or is the shell's and writes. `WantMemory` comes only where memory
 /// could not be had.
 pub(crate) fn disc_of(alloc: Global, image: &Image) -> Result<Option<Disc>, WantMemory>

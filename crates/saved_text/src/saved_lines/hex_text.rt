@@ -24,7 +24,7 @@ fn are_lower_digits(digits: &[u8]) -> bool
         .all(|c| (48 <= *c && *c <= 57) || (97 <= *c && *c <= 102))
 }
 
-/// The digits behind a colon; `None` exactly where there is no colon, or what follows it is not hex.
+/// The digits after a colon; `None` exactly where there is no colon, or what follows it is not hex.
 pub fn hex_field(text: &[u8]) -> Option<&[u8]>
     ensures { option_map (λ x. x.now) result ≡ hex_field text.now }
 {

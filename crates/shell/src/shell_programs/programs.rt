@@ -30,7 +30,7 @@ pub enum Priority {
 /// The highest index of a program's stack.
 const STACK: u32 = 1000;
 
-/// For the lowest free number, the call that creates a task is asked with 0.
+/// The number that asks for the lowest free one, where a task is created.
 const LOWEST_FREE: u32 = 0;
 
 /// Starts a program: its file is loaded as a module, of which the shell makes a task. The task is dead: it begins with the first

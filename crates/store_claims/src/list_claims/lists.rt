@@ -46,7 +46,7 @@ fn claim_chain(store: &Store, words: &mut Claims) -> bool
     claim_list(store, words, RootField::FirstTask.address(), 0, &TaskBlocks)
 }
 
-// All behind the chain of tasks.
+// All after the chain of tasks.
 fn claim_from_modules(store: &Store, words: &mut Claims) -> bool
     requires room { length words.old ≤ length store.now }
     requires walk { CanWalk store.now task_link first_task }
@@ -70,7 +70,7 @@ fn claim_modules(store: &Store, words: &mut Claims) -> bool
     claim_list(store, words, RootField::FirstModule.address(), 0, &Modules)
 }
 
-// All behind the modules.
+// All after the modules.
 fn claim_from_tasks(store: &Store, words: &mut Claims) -> bool
     requires room { length words.old ≤ length store.now }
     requires walk { CanWalk store.now task_link first_task }
@@ -156,7 +156,7 @@ fn claim_device(store: &Store, words: &mut Claims, head: RootField) -> bool
     claim_queue(store, words, head.address())
 }
 
-// All behind the lists of tasks: the packets of the clock, and then the others.
+// All after the lists of tasks: the packets of the clock, and then the others.
 fn claim_devices(store: &Store, words: &mut Claims) -> bool
     requires room { length words.old ≤ length store.now }
     requires walk { CanWalk store.now task_link first_task }
@@ -168,7 +168,7 @@ fn claim_devices(store: &Store, words: &mut Claims) -> bool
     claim_from_keyboard(store, words)
 }
 
-// The packets of the keyboard, and all behind them.
+// The packets of the keyboard, and all after them.
 fn claim_from_keyboard(store: &Store, words: &mut Claims) -> bool
     requires room { length words.old ≤ length store.now }
     requires walk { CanWalk store.now task_link first_task }
@@ -180,7 +180,7 @@ fn claim_from_keyboard(store: &Store, words: &mut Claims) -> bool
     claim_from_output(store, words)
 }
 
-// The packets of the output, and all behind them.
+// The packets of the output, and all after them.
 fn claim_from_output(store: &Store, words: &mut Claims) -> bool
     requires room { length words.old ≤ length store.now }
     requires walk { CanWalk store.now task_link first_task }

@@ -33,7 +33,7 @@ pub(crate) fn claim_residents(store: &Store, words: &mut Claims) -> bool
     claim_console(store, words)
 }
 
-// The head of the reads that wait for a line, and all behind it.
+// The head of the reads that wait for a line, and all after it.
 fn claim_console(store: &Store, words: &mut Claims) -> bool
     requires room { length words.old ≤ length store.now }
     requires walk { CanWalk store.now task_link first_task }
@@ -45,7 +45,7 @@ fn claim_console(store: &Store, words: &mut Claims) -> bool
     claim_console_queue(store, words)
 }
 
-// These reads, and all behind them.
+// These reads, and all after them.
 fn claim_console_queue(store: &Store, words: &mut Claims) -> bool
     requires room { length words.old ≤ length store.now }
     requires walk { CanWalk store.now task_link first_task }
@@ -57,7 +57,7 @@ fn claim_console_queue(store: &Store, words: &mut Claims) -> bool
     claim_packets(store, words)
 }
 
-// The key packet, where it is on no queue, and all behind it.
+// The key packet, where it is on no queue, and all after it.
 fn claim_packets(store: &Store, words: &mut Claims) -> bool
     requires { CanWalk store.now task_link first_task }
     ensures { IsTrue result ↔ Can PacketsEnd words.old (packet_rest store.now) }

@@ -5,7 +5,7 @@ ghost use Rattle.word_store.specs.Row.{with_words};
 use super::Store;
 
 impl Store {
-    /// The address of word i of what stands at address a. It is inside, or directly behind the last word.
+    /// The address of word i of what stands at address a. It is inside, or directly after the last word.
     pub fn address_of(&self, a: u32, i: u32) -> u32
         requires { a + i ≤ length self.now }
         ensures { result ≡ a + i }
