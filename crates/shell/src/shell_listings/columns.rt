@@ -9,7 +9,7 @@ use itoa::Buffer;
 const MOST_SPACES: usize = 12;
 
 /// Adds a number in decimal, which has at most 10 digits.
-#[tactic(auto, using(crate::proofs::ShellListings::LineLengths::few_digits))]
+#[tactic(auto, using(resident_tasks::proofs::FaultReporter::ReportLines::few_digits))]
 pub(crate) fn append_number(bytes: &mut Output, n: u32)
     requires { length bytes.old + 10 ≤ 8192 }
     ensures text { bytes.new ≡ bytes.old ++ decimal n }
@@ -20,7 +20,7 @@ pub(crate) fn append_number(bytes: &mut Output, n: u32)
 }
 
 /// Adds a number in decimal, right in so many places.
-#[tactic(auto, using(crate::proofs::ShellListings::LineLengths::few_digits))]
+#[tactic(auto, using(resident_tasks::proofs::FaultReporter::ReportLines::few_digits))]
 pub(crate) fn append_right(bytes: &mut Output, places: usize, n: u32)
     requires few { places ≤ 10 }
     requires room { length bytes.old + 10 ≤ 8192 }
