@@ -1,15 +1,17 @@
 // A machine without a kernel.
 ghost use Rattle.std.specs.Prelude.{◌≡◌, ◌<◌, ◌+◌, ◌-◌, ◌≤◌, [], None, MatchOption};
+ghost use Rattle.instruction_set.specs.NextWrites.{next_writes};
+ghost use Rattle.instruction_set.specs.Writes.{list_of};
 ghost use Rattle.kernel_model.specs.KernelRecord.Ranges.{most_steps};
 ghost use Rattle.bare_machine.specs.Run.{Avoids, IsPlain, IsPlainStep, run};
 ghost use Rattle.bare_machine.specs.State.{IsSound, bare_state};
-ghost use Rattle.bare_machine.specs.Step.{step};
+ghost use Rattle.bare_machine.specs.Step.{step, unmarked};
 
 use crate::BareParts;
 use crate::advances::advance;
 use crate::steps::{execute_one, step_or_stay};
 use byte_streams::Output;
-use instruction_set::Places;
+use instruction_set::{NoKernel, Places, Writes, next_writes};
 use kernel_model::Stop;
 use std::marker::Model;
 
@@ -73,6 +75,14 @@ impl Bare {
         ensures { result.now ≡ self.now.output }
     {
         self.output.bytes()
+    }
+
+    /// What the next instruction writes: nothing where it is a call or a fault.
+    pub fn next_writes(&self) -> Writes
+        ensures { list_of result
+            ≡ next_writes unmarked self.now.state.words self.now.state.regs }
+    {
+        next_writes(&self.parts.store, self.parts.regs, &NoKernel)
     }
 
     /// Takes one step, and answers why the machine has stopped, if it has. A machine that has stopped before stays as it is,

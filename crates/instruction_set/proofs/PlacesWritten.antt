@@ -25,7 +25,7 @@ use Rattle.instruction_set.specs.Switch.{compared, halfword, jump_by, search_fro
 
 -- ---- what is written differs at the addresses of the writes alone
 
-abbrev address_of : ℕ × ℕ → ℕ
+abbrev pub address_of : ℕ × ℕ → ℕ
 address_of w = w.0
 
 first-contained : (a : ℕ) (at : List ℕ) → Contains (a ∷ at) a
@@ -45,7 +45,7 @@ written-differ (w ∷ ws) words a other = elim (cases_eq a w.0) [
 
 -- ---- each change writes at these addresses
 
-abbrev WritesAt : List ℕ → Result Change Fault → Type 0
+abbrev pub WritesAt : List ℕ → Result Change Fault → Type 0
 WritesAt at o = IfOk o (λ x. map address_of x.writes ≡ at)
 
 after_step : {A : Type 0} (at : List ℕ) (o : Result A Fault) (f : A → Result Change Fault) → ((x : A) → WritesAt at (f x)) → WritesAt at (o >>= f)
@@ -129,7 +129,7 @@ module _ (words : List ℕ) (r : Regs) (next : ℕ) where
   abbrev q : Regs
   q = record r { pc = next }
 
-  change_of-writes : (effect : Effect) (n t place : ℕ) → WritesAt (addresses (places_by effect words r n t)) (change_of effect words q n t place)
+  pub change_of-writes : (effect : Effect) (n t place : ℕ) → WritesAt (addresses (places_by effect words r n t)) (change_of effect words q n t place)
   change_of-writes LoadP n t place = load_at-writes words q _
   change_of-writes LoadG n t place = load_at-writes words q _
   change_of-writes (LoadGk k) n t place = load_through-writes words q _ k

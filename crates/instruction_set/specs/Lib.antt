@@ -4,6 +4,7 @@ pub mod Breakpoints
 pub mod Change
 pub mod Effect
 pub mod Instruction
+pub mod NextWrites
 pub mod Places
 pub mod SearchOrder
 pub mod Switch

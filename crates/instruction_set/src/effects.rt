@@ -101,9 +101,9 @@ pub fn effect<X: Guard>(store: &mut Store, regs: &mut Regs, guard: &X, i: Instr)
     }
 }
 
-// The registers with PC at the next instruction.
+/// The registers with PC at the next instruction.
 #[inline(always)]
-fn next(regs: &Regs, length: u32) -> Regs
+pub fn next(regs: &Regs, length: u32) -> Regs
     ensures { result ≡ record regs.now { pc = add regs.now.pc length } }
 {
     Regs {

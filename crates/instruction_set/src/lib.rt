@@ -18,7 +18,8 @@ pub mod operand_forms;
 pub mod places;
 mod switches;
 mod unguarded;
-mod writes;
+pub mod writes;
+pub mod written_words;
 
 pub use breakpoints::has_breakpoint;
 pub use instruction_table::{Form, Row, byte_of, row};
@@ -27,6 +28,8 @@ pub use operand_forms::{Code, Instr, decode};
 pub use places::{Places, written_places};
 pub use unguarded::NoKernel;
 use word_store::{Guard, Regs, Store};
+pub use writes::Writes;
+pub use written_words::next_writes;
 
 /// Why an instruction was not executed, and where: a word address for codes 3, 4 and 6, else a byte address.
 ///

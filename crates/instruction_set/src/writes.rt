@@ -73,8 +73,9 @@ fn make<X: Guard>(store: &mut Store, regs: &mut Regs, guard: &X, change: Change)
     Outcome::Next
 }
 
+/// The first of the writes, in their order, that is outside the store or into a kernel word.
 #[inline(always)]
-fn first_fault<X: Guard>(store: &Store, guard: &X, writes: Writes) -> Option<Fault>
+pub fn first_fault<X: Guard>(store: &Store, guard: &X, writes: Writes) -> Option<Fault>
     requires { X.can_guard guard.now store.now }
     ensures { result ≡ write_fault (X.marks guard.now store.now) store.now (list_of writes) }
 {
@@ -108,8 +109,9 @@ fn fault_at<X: Guard>(store: &Store, guard: &X, a: u32) -> Option<Fault>
     None
 }
 
+/// Makes the writes, in their order.
 #[inline(always)]
-fn write_all(store: &mut Store, writes: Writes)
+pub fn write_all(store: &mut Store, writes: Writes)
     ensures { store.new ≡ written store.old (list_of writes) }
 {
     match writes {

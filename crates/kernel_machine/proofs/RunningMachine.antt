@@ -17,3 +17,4 @@ pub mod QuietSpan
 pub mod UncountedSteps
 pub mod MetBreakpoints
 pub mod PlainSteps
+pub mod WritesOfGuests

@@ -1,6 +1,7 @@
 pub mod EventHistory
 pub mod PacketHistory
 pub mod State
+pub mod GuestWrites
 pub mod Step
 pub mod Boot
 pub mod Machine

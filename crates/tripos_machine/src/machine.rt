@@ -1,7 +1,9 @@
 // A machine of either kind.
 ghost use Rattle.std.specs.Prelude.{◌≡◌, ◌<◌, ◌+◌, ◌-◌, ◌≤◌, [], None, MatchOption, ℕ};
+ghost use Rattle.instruction_set.specs.Writes.{list_of};
 ghost use Rattle.kernel_model.specs.KernelRecord.Ranges.{most_steps};
 ghost use Rattle.tripos_machine.specs.Breakpoints.{Avoids, IsPlain, IsPlainStep};
+ghost use Rattle.tripos_machine.specs.GuestWrites.{guest_writes, is_kernels};
 ghost use Rattle.tripos_machine.specs.Histories.{HasHistory};
 ghost use Rattle.tripos_machine.specs.Quiet.{AreQuiet, IsIdle};
 ghost use Rattle.tripos_machine.specs.State.{IsBare, IsSound, RepresentsFullState, RepresentsState, State, keys_of, regs_of, running_of, steps_of, stop_of, typed, words_of};
@@ -11,7 +13,7 @@ ghost use Rattle.kernel_model.specs.KernelRecord.LoggedEvents.{LogsAll};
 use crate::Parts;
 use crate::kinds::Kind;
 use bare_machine::Bare;
-use instruction_set::Places;
+use instruction_set::{Places, Writes};
 use kernel_lists::EventLog;
 use kernel_machine::{Machine as FullMachine, Parts as FullParts};
 use kernel_model::Stop;
@@ -122,6 +124,26 @@ impl Machine {
         match &self.kind {
             Kind::Bare(_) => 0,
             Kind::Full(machine) => machine.running(),
+        }
+    }
+
+    /// What a guest's instruction writes in the next step: nothing where it is a call or a fault, and where no guest is next.
+    pub fn next_writes(&self) -> Writes
+        ensures { list_of result ≡ guest_writes self.now.state }
+    {
+        match &self.kind {
+            Kind::Bare(machine) => machine.next_writes(),
+            Kind::Full(machine) => machine.next_writes(),
+        }
+    }
+
+    /// Whether the word at the address is the kernel's, which no guest may write.
+    pub fn is_kernel_word(&self, a: u32) -> bool
+        ensures { result ≡ is_kernels self.now.state a }
+    {
+        match &self.kind {
+            Kind::Bare(_) => false,
+            Kind::Full(machine) => machine.is_kernel_word(a),
         }
     }
 
@@ -239,8 +261,9 @@ impl Machine {
             Kind::Full(machine) => machine.advance(most, breakpoints, log),
         }
     }
-    // Tells that its state is one between steps.
-    pub(crate) fn know_sound(&self)
+
+    /// Tells that its state is one between steps.
+    pub fn know_sound(&self)
         ensures { IsSound self.now.state }
     {
         self.kernel_parts();

@@ -90,6 +90,14 @@ impl Store {
         self.set(a / 4, u32::from_le_bytes(bytes))
     }
 
+    /// Takes over the words of another store of as many words.
+    pub fn copy_from(&mut self, other: &Store)
+        requires { length self.old ≡ length other.now }
+        ensures { self.new ≡ other.now }
+    {
+        self.words.copy_from_slice(other.words.as_slice());
+    }
+
     /// The n words from address a on, lent; `None` exactly where they pass the end of the store.
     pub fn words(&self, a: u32, n: u32) -> Option<&[u32]>
         ensures outside { IsNone result ↔ (length self.now < a + n) }

@@ -1,11 +1,14 @@
 // A machine with a kernel.
 ghost use Rattle.std.specs.Prelude.{◌≡◌, ◌<◌, ◌+◌, ◌≤◌, [], Some, None, false};
+ghost use Rattle.instruction_set.specs.Writes.{list_of};
 ghost use Rattle.kernel_model.specs.KernelRecord.Ranges.{most_steps};
 ghost use Rattle.kernel_model.specs.KernelRecord.HoldsLists.{HoldsLists};
 ghost use Rattle.kernel_model.specs.KernelRecord.Kernel.{Kernel};
 ghost use Rattle.kernel_model.specs.KernelRecord.Lists.{Lists};
 ghost use Rattle.kernel_model.specs.KernelRecord.ValidKernel.{IsValid};
+ghost use Rattle.guest_turns.specs.Guarded.{is_owned};
 ghost use Rattle.kernel_machine.specs.RunningMachine.RepresentedKernels.{RepresentsKernel};
+ghost use Rattle.kernel_machine.specs.KernelSteps.GuestWrites.{guest_writes};
 ghost use Rattle.kernel_machine.specs.KernelSteps.Step.{boot_events, first_events, run_events, step};
 ghost use Rattle.kernel_machine.specs.RunningMachine.Machine.{kernel_of, with_byte_typed};
 ghost use Rattle.kernel_model.specs.KernelRecord.LoggedEvents.{LogsAll};
@@ -14,7 +17,9 @@ use crate::running_machine::Parts;
 use crate::running_machine::steps::step_or_stay;
 use crate::running_machine::turns::running;
 use byte_streams::Output;
-use kernel_lists::{EventLog, KernelEvent, RootField, root};
+use guest_turns::{guest_writes, is_kernel_word};
+use instruction_set::Writes;
+use kernel_lists::{EventLog, FIRST_GUEST, KernelEvent, RootField, root};
 use kernel_model::Stop;
 use kernel_model::numbers::{CONSOLE, KEY_PACKET, SHELL, SHELL_PACKET, SIGNED_KEYBOARD};
 use std::marker::Model;
@@ -81,6 +86,23 @@ impl Machine {
         ensures { result ≡ self.now.kernel.lists.running }
     {
         running(&self.parts.store)
+    }
+
+    /// What the running guest's next instruction writes: nothing where it is a call or a fault, and where no guest runs.
+    pub fn next_writes(&self) -> Writes
+        ensures { list_of result ≡ guest_writes self.now.kernel }
+    {
+        if self.running() < FIRST_GUEST {
+            return Writes::Nothing;
+        }
+        guest_writes(&self.parts.store, self.parts.regs, &self.parts.kinds)
+    }
+
+    /// Whether the word at the address is the kernel's: one that its lists own.
+    pub fn is_kernel_word(&self, a: u32) -> bool
+        ensures { result ≡ is_owned self.now.kernel.lists a }
+    {
+        is_kernel_word(&self.parts.store, a, &self.parts.kinds)
     }
 
     /// Why it has stopped, if it has.
