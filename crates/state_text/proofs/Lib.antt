@@ -3,3 +3,4 @@ pub mod GatheredLines
 pub mod KernelStates
 pub mod ListedWords
 pub mod LoadedWords
+pub mod StillSteps

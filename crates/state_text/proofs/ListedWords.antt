@@ -1,5 +1,5 @@
 -- The lists that the words of a store say, one by one.
-use Rattle.std.proofs.Common.{◌≡◌, ◌∙◌, ℕ, ◌||◌, Bool, Option, Some, None, List, [], ◌∷◌, ◌++◌, is_some, map, refl, sym, ap}
+use Rattle.std.proofs.Common.{◌≡◌, ◌∙◌, ℕ, ◌||◌, Bool, cond, Option, Some, None, List, [], ◌∷◌, ◌++◌, is_some, map, refl, sym, ap}
 use Rattle.std.specs.Iterator.{YieldsFirst}
 use Rattle.std.specs.List.{flat_map, list_any}
 use Rattle.std.proofs.lemmas.List.Folds.{list_any-append}
@@ -9,6 +9,7 @@ use Rattle.kernel_model.specs.KernelRecord.Task.{Task}
 use Rattle.kernel_lists.specs.PacketQueue.QueueWords.{QueuedPacket}
 use Rattle.kernel_lists.specs.TaskBlock.Lists.{modules_in}
 use Rattle.kernel_lists.specs.TaskBlock.TaskChain.{tasks_in}
+use Rattle.state_text.specs.Deadlock.{two_pass}
 use Rattle.state_text.specs.Runner.{has_member}
 
 module _ (s : List ℕ) where
@@ -24,6 +25,11 @@ module _ (s : List ℕ) where
 pub any-map : {X : Type 0} (test : X → Bool) (at : ℕ → X) (xs : List ℕ) → list_any test (map at xs) ≡ list_any (λ a. test (at a)) xs
 any-map test at [] = refl
 any-map test at (x ∷ xs) = ap (λ b. test (at x) || b) (any-map test at xs)
+
+-- whether two of them do, or more
+pub two-map : {X : Type 0} (test : X → Bool) (at : ℕ → X) (xs : List ℕ) → two_pass test (map at xs) ≡ two_pass (λ a. test (at a)) xs
+two-map test at [] = refl
+two-map test at (x ∷ xs) = λ i. cond (test (at x)) (any-map test at xs i) (two-map test at xs i)
 
 -- whether a member of one of these lists passes it
 any-flat_map : {X Y : Type 0} (test : Y → Bool) (at : X → List Y) (xs : List X) → list_any test (flat_map at xs) ≡ list_any (λ x. list_any test (at x)) xs

@@ -4,4 +4,5 @@ pub mod AwaitedPackets
 pub mod TaskTexts
 pub mod ModuleTexts
 pub mod Runner
+pub mod Deadlock
 pub mod StateText

@@ -8,6 +8,7 @@ use Rattle.debugger.specs.Views.{is_guest_next}
 use Rattle.kernel_model.specs.KernelRecord.Lists.{Lists}
 use Rattle.kernel_model.specs.declared.kernel_record.stops.Stop.{Stop}
 use Rattle.kernel_model.specs.declared.kernel_record.stops.Stop.TheVariants.{Fault, Finish, Quit, Steps}
+use Rattle.state_text.specs.Deadlock.{deadlock_text}
 use Rattle.state_text.specs.ModuleTexts.{modules_text}
 use Rattle.state_text.specs.PacketTexts.{queues_text}
 use Rattle.state_text.specs.ProgramNames.{name_in}
@@ -69,7 +70,8 @@ abbrev pub lists_text : List Program → State → List ℕ
 lists_text programs (Bare m) = []
 lists_text programs (Full k) = kernel_text (name_in programs (words_of (Full k))) k.lists (blocks_text (Full k))
 
--- the whole: where it stands, who runs, the registers, the next instruction, and the lists, with the names of these programs
+-- the whole: where it stands, who runs, which tasks wait for ever, the registers, the next instruction, and the lists, with the names of these programs
 unfoldable pub state_text : List Program → State → List ℕ
 state_text programs s =
-    joined (count_words s ∷ stop_line (stop_of s) ∷ runner_text s ∷ registers_line (regs_of s) (running_of s) ∷ next_line s ∷ lists_text programs s ∷ [])
+    joined (count_words s ∷ stop_line (stop_of s) ∷ runner_text s ∷ deadlock_text s ∷ registers_line (regs_of s) (running_of s) ∷ next_line s
+    ∷ lists_text programs s ∷ [])

@@ -2,6 +2,8 @@
 #![tactic(auto)]
 
 mod awaited;
+mod deadlock;
+pub mod laws;
 mod modules;
 mod names;
 mod packets;

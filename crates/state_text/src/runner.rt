@@ -114,8 +114,8 @@ fn are_dead(store: &Store) -> bool
     true
 }
 
-// Whether a device can still send a packet back, where it is known whether keys will come.
-fn can_answer(store: &Store, keys: bool) -> bool
+/// Whether a device can still send a packet back, where it is known whether keys will come.
+pub(crate) fn can_answer(store: &Store, keys: bool) -> bool
     requires { CanWalkLists store.now }
     ensures { result ≡ can_answer (lists_in store.now) keys }
 {
@@ -131,8 +131,8 @@ fn can_answer(store: &Store, keys: bool) -> bool
     keys
 }
 
-// Whether a key is still to come, or one is typed ahead.
-fn has_keys(machine: &Machine) -> bool
+/// Whether a key is still to come, or one is typed ahead.
+pub(crate) fn has_keys(machine: &Machine) -> bool
     ensures { result ≡ has_keys machine.now.state }
 {
     match machine.kernel_parts() {

@@ -9,6 +9,7 @@ ghost use Rattle.state_text.specs.ProgramNames.{name_in};
 ghost use Rattle.state_text.specs.StateText.{bare_counts, count_words, instruction_line, is_end, is_past, kernel_counts, kernel_text, lists_text, next_line, state_text, stop_line, stopped_line};
 
 use crate::Program;
+use crate::deadlock::gather_deadlock;
 use crate::modules::gather_modules;
 use crate::queues::gather_queues;
 use crate::runner::gather_runner;
@@ -22,7 +23,7 @@ use tripos_machine::Machine;
 use word_store::Store;
 
 /// Gathers the state of a machine, a line for each fact. The first line says after how many steps it is, at which tick, and whether the
-/// machine has stopped; then come who runs, or why nobody does, the registers, and the instruction at PC, which is a byte address.
+/// machine has stopped; then come who runs, or why nobody does, the tasks that wait or are held for ever, the registers, and the instruction at PC, which is a byte address.
 /// Behind these a machine with a kernel has its tasks with their packets, each queue, the blocks and the modules; their addresses are
 /// word addresses, and sizes are in words. A module, and a task, has the name of the first of the programs whose words stand there. A
 /// machine without a kernel has no tick, and none of these lists.
@@ -40,6 +41,7 @@ pub fn gather_state<K: Sink>(
     gather_counts(machine, out, pending)?;
     gather_stop(machine.stop(), out, pending)?;
     gather_runner(machine, out, pending)?;
+    gather_deadlock(machine, out, pending)?;
     gather_registers(machine, out, pending)?;
     gather_next(machine, out, pending)?;
     gather_lists(machine, programs, out, pending)

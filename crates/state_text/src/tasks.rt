@@ -243,8 +243,8 @@ fn gather_awaited_text<K: Sink>(
     gather_awaited(store, field(store, t, TcbField::Id), out, pending)
 }
 
-// Whether it waits, and no packet has come.
-fn awaits_packet(store: &Store, t: u32) -> bool
+/// Whether it waits, and no packet has come.
+pub(crate) fn awaits_packet(store: &Store, t: u32) -> bool
     requires { CanWalkTask store.now t }
     ensures { result ≡ awaits_packet (task_in store.now t) }
 {
