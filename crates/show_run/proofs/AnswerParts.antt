@@ -1,11 +1,16 @@
 -- Answers, from what the words ask for.
-use Rattle.std.proofs.Common.{◌≡◌, ℕ, Option, None, Result, List, refl}
+use Rattle.std.proofs.Common.{◌≡◌, ℕ, Option, None, Some, Result, List, [], refl, arith}
+use Rattle.std.proofs.lemmas.Bool.{false≢true}
+use Rattle.std.specs.Io.KnownBytes.{Consumes}
+use Rattle.std.specs.Prelude.{IsSome}
 use Rattle.byte_streams.specs.Write.{Prints}
 use Rattle.program_answers.specs.Answered.{Answered}
 use Rattle.program_answers.specs.Input.{IsInput}
-use Rattle.program_answers.specs.declared.status.Status.TheVariants.{Usage}
+use Rattle.program_answers.specs.declared.status.Status.TheVariants.{Usage, WantMemory}
 use Rattle.program_answers.proofs.AnswerParts.{Answers-any, Answers-usage_text, status_after}
 use Rattle.show_run.specs.InputAnswers.{IsShowAnswer, usage_answer}
+use Rattle.show_run.specs.Leaves.{LeavesAsked}
+use Rattle.show_run.specs.ValueTries.TryWords.{Asked}
 use Rattle.show_run.specs.Words.{usage_text}
 use Rattle.show_run.specs.declared.commands.Show.{Show}
 
@@ -14,3 +19,12 @@ pub Answers-usage : {T E : Type 0} (asked : Option Show) (left h k : Option (Lis
 Answers-usage asked left h k written is p =
     let x = Answers-any usage_answer left h k (status_after written Usage) (Answers-usage_text usage_answer h k written refl p) in
     (x.0, x.1, rw is x.2)
+
+-- nothing was read where there was no memory for the values that are tried
+pub leaves-memory : (tries : Option Asked) (asked : Option Show) (left : Option (List ℕ)) → IsSome tries → LeavesAsked tries asked left left WantMemory
+leaves-memory None asked left is = absurd (false≢true is)
+leaves-memory (Some tries) asked left is = ([], omega arith, nothing left)
+  where
+    nothing : (left : Option (List ℕ)) → Consumes left left []
+    nothing None = tt
+    nothing (Some xs) = refl

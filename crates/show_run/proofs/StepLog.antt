@@ -1,6 +1,9 @@
 pub mod ConsoleTexts
 pub mod KeptParts
 pub mod GivenBack
+pub mod QuietSteps
+pub mod TurnLines
+pub mod ChangedLines
 pub mod SteppedLines
 pub mod GuestLines
 pub mod ToldPackets

@@ -5,6 +5,8 @@ use Rattle.program_answers.specs.Answer.{Answer}
 use Rattle.program_answers.specs.Input.{IsInputAnswer}
 use Rattle.program_answers.specs.declared.status.Status.TheVariants.{Usage}
 use Rattle.show_run.specs.ShownAnswers.{session_answer}
+use Rattle.show_run.specs.ValueTries.TriesAnswers.{IsTried}
+use Rattle.show_run.specs.ValueTries.TryWords.{Asked, tries_of}
 use Rattle.show_run.specs.Words.{show_of, usage_text}
 use Rattle.show_run.specs.declared.commands.Show.{Show}
 
@@ -20,6 +22,11 @@ abbrev pub IsShowAnswer : Option Show → List ℕ → Answer → Type 0
 IsShowAnswer None input a = a ≡ usage_answer
 IsShowAnswer (Some asked) input a = IsInputAnswer (IsShown asked) input a
 
+-- words that ask for tries of values get these, and other words what is shown
+abbrev pub IsAskedAnswer : Option Asked → Option Show → List ℕ → Answer → Type 0
+IsAskedAnswer None asked input a = IsShowAnswer asked input a
+IsAskedAnswer (Some tries) asked input a = IsInputAnswer (IsTried tries) input a
+
 -- the answer to these words and this input, of which there is one at most
 abbrev pub IsAnswer : List (List ℕ) → List ℕ → Answer → Type 0
-IsAnswer words input a = IsShowAnswer (show_of words) input a
+IsAnswer words input a = IsAskedAnswer (tries_of words) (show_of words) input a

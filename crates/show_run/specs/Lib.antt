@@ -2,6 +2,8 @@ pub mod StepLog
 pub mod Words
 pub mod ShortFiles
 pub mod SessionPrograms
+pub mod WordWrites
 pub mod ShownAnswers
 pub mod InputAnswers
 pub mod Leaves
+pub mod ValueTries

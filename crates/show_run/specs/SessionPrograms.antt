@@ -10,7 +10,7 @@ use Rattle.session_text.specs.declared.sessions.Session.{Session}
 use Rattle.session_text.specs.declared.sessions.SessionLine.{SessionLine}
 use Rattle.state_text.specs.declared.programs.Program.{Program}
 use Rattle.show_run.specs.declared.commands.Show.{Show}
-use Rattle.show_run.specs.declared.commands.Show.TheVariants.{Log, State as ShowState}
+use Rattle.show_run.specs.declared.commands.Show.TheVariants.{State as ShowState}
 
 -- a file whose text is a module is a program; any other file is none
 abbrev pub file_programs : List ℕ → Result Module Refusal → List Program
@@ -30,7 +30,7 @@ line_programs line = form_programs line.form
 abbrev pub programs_of : Session → List Program
 programs_of s = flat_map line_programs s.lines
 
--- those whose names are said: a state has the names of all, and a log none
+-- those whose names are said: a state has the names of all, and what happened in steps has none
 abbrev pub named_programs : Show → Session → List Program
 named_programs ShowState s = programs_of s
-named_programs (Log first last) s = []
+named_programs _ s = []

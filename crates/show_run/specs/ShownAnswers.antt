@@ -11,8 +11,9 @@ use Rattle.state_text.specs.StateText.{state_text}
 use Rattle.state_text.specs.declared.programs.Program.{Program}
 use Rattle.show_run.specs.StepLog.StepLines.{boot_lines, log_text}
 use Rattle.show_run.specs.SessionPrograms.{named_programs}
+use Rattle.show_run.specs.WordWrites.{boot_write, writes_text}
 use Rattle.show_run.specs.declared.commands.Show.{Show}
-use Rattle.show_run.specs.declared.commands.Show.TheVariants.{Log, State as ShowState}
+use Rattle.show_run.specs.declared.commands.Show.TheVariants.{Log, State as ShowState, Writes}
 
 -- the state in which a run of so many steps stops, with the names of these programs
 abbrev pub shown_state : List Program → ℕ → State → List ℕ
@@ -36,13 +37,23 @@ steps_part first last go s = log_text (shown first last go) (run (skipped first 
 abbrev pub log_of : ℕ → ℕ → ℕ → State → List ℕ
 log_of first last go s = boot_part first s ++ steps_part first last go s
 
+-- the steps from the first to the last, of a run of so many, that write the word at an address, and what the boot writes there
+abbrev pub writes_of : ℕ → ℕ → ℕ → ℕ → State → List ℕ
+writes_of a first last go s = boot_write first a s ++ writes_text (shown first last go) a (run (skipped first go) s).state
+
+-- what is asked for, of a run of so many steps
 abbrev pub shown_text : Show → List Program → ℕ → State → List ℕ
 shown_text ShowState programs go s = shown_state programs go s
 shown_text (Log first last) programs go s = log_of first last go s
+shown_text (Writes address first last) programs go s = writes_of address first last go s
+
+-- what was asked for is shown
+abbrev pub shown_answer : List ℕ → Answer
+shown_answer text = record { status = Done; bytes = text }
 
 -- the machine of a session, where that boots
 abbrev pub machine_answer : Show → List Program → ℕ → Result Stepped Refusal → Answer
-machine_answer asked programs go (Ok x) = record { status = Done; bytes = shown_text asked programs go x.state }
+machine_answer asked programs go (Ok x) = shown_answer (shown_text asked programs go x.state)
 machine_answer asked programs go (Err r) = no_boot_answer r
 
 abbrev pub session_answer : Show → Result Session Refusal → Answer

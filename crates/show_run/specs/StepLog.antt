@@ -6,4 +6,5 @@ pub mod Faults
 pub mod Packets
 pub mod Refusals
 pub mod Answers
+pub mod Writes
 pub mod StepLines

@@ -13,7 +13,7 @@ ghost use Rattle.show_run.specs.ShortFiles.{HasShortFiles};
 ghost use Rattle.show_run.specs.ShownAnswers.{machine_answer, session_answer};
 
 use crate::Show;
-use crate::machines::show_machine;
+use crate::machines::answer_shown;
 use crate::programs::named_programs;
 use byte_streams::Sink;
 use module_text::TextEnd;
@@ -88,10 +88,7 @@ fn answer_machine<K: Sink>(
     ensures cause { HasFaultCause Status.WriteFault (K.faults out.old) (K.faults out.new) result }
 {
     match boot_machine(alloc, session) {
-        Ok(mut machine) => {
-            let shown = show_machine(asked, programs, &mut machine, session.go, out);
-            status_after(shown, Status::Done)
-        }
+        Ok(mut machine) => answer_shown(alloc, asked, programs, &mut machine, session.go, out),
         Err(BootEnd::Line { line, code }) => {
             status_after(write_no_boot(out, line, code), Status::NoBoot)
         }

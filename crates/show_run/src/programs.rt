@@ -21,7 +21,7 @@ pub(crate) fn named_programs(
 {
     match asked {
         Show::State => programs_of(alloc, session),
-        Show::Log { .. } => Ok(Vec::new(alloc)),
+        Show::Log { .. } | Show::Writes { .. } => Ok(Vec::new(alloc)),
     }
 }
 

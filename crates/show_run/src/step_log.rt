@@ -9,13 +9,15 @@ mod console;
 mod event_lines;
 pub mod event_logs;
 pub mod faults;
-mod guests;
+pub mod guests;
 pub mod laws;
 pub mod moments;
 pub mod packets;
 pub mod parties;
 mod refusals;
 pub mod steps;
+pub mod turns;
+pub mod writes;
 
 pub use boots::gather_boot;
 pub use laws::{call_law, number_law};

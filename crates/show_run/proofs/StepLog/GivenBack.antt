@@ -1,6 +1,6 @@
 -- What a log of lines gives back, where something was pending before.
 use Rattle.std.proofs.Common.{◌≡◌, ℕ, List, [], ◌∷◌, ◌++◌, Option}
-use Rattle.byte_streams.specs.Pending.{IsCut, IsGathered}
+use Rattle.byte_streams.specs.Pending.{IsCut}
 use Rattle.byte_streams.specs.Write.{AppendsPrefix}
 use Rattle.show_run.specs.declared.step_log.moments.Moment.{Moment}
 

@@ -8,6 +8,7 @@ use Rattle.kernel_model.specs.declared.kernel_record.stops.Stop.{Stop}
 use Rattle.kernel_model.specs.declared.kernel_record.stops.Stop.TheVariants.{Steps, Quit, Finish, Fault}
 use Rattle.debugger.specs.Texts.{instructions_text}
 use Rattle.debugger.specs.Views.{is_guest_next}
+use Rattle.tripos_machine.specs.GuestWrites.{guest_writes}
 use Rattle.tripos_machine.specs.State.{State, keys_to_come, regs_of, running_of, steps_of, stop_of, words_of}
 use Rattle.tripos_machine.specs.State.State.{Bare, Full}
 use Rattle.tripos_machine.specs.Step.{Stepped, boot_events, step}
@@ -22,6 +23,7 @@ use Rattle.show_run.specs.StepLog.Events.{event_line}
 use Rattle.show_run.specs.StepLog.Faults.{fault_lines, record_of}
 use Rattle.show_run.specs.StepLog.Moments.{line, start}
 use Rattle.show_run.specs.StepLog.Packets.{told_lines, told_of}
+use Rattle.show_run.specs.StepLog.Writes.{other_lines, written_lines}
 
 -- ---- the boot
 
@@ -116,8 +118,15 @@ stop_lines m (Some stop) = line m (stop_text stop)
 
 -- ---- the step
 
+-- the instruction, what it writes, and its call
 abbrev pub lines_before : Moment → Before → State → List ℕ
-lines_before m b s = guest_lines m s ++ call_lines m b.call
+lines_before m b s = guest_lines m s ++ (written_lines m (words_of s) (guest_writes s) ++ call_lines m b.call)
+
+-- what happens as the step is taken: its events in their order, the packets that were accepted, with their words after the step, and the
+-- words that change beside those that the instruction writes
+unfoldable pub turn_lines : Moment → Before → State → Stepped → List ℕ
+turn_lines m b s x =
+    flat_map (event_line m) x.events ++ (told_lines m (words_of x.state) (told_of x.events) ++ other_lines m b.call x.events s x.state)
 
 -- what the call answers, and the fault that was recorded in place of an answer
 abbrev pub end_lines : Moment → Before → State → List ℕ
@@ -129,15 +138,14 @@ change_lines m b s = tick_lines m (tick_of s) ++ (key_lines m b.count b.first (l
 abbrev pub lines_after : Moment → Before → List ℕ → State → List ℕ
 lines_after m b bytes s = end_lines m b s ++ (console_lines m bytes ++ change_lines m b s)
 
--- What a step of a machine does, a line each: the instruction, its call, the events in their order, the packets that were accepted, with
--- their words after the step, what the call answers, a fault of the task, what is written to the console, the tick, the key that came, and
--- the stop. Each line begins with the step, and where the machine stood before it.
+-- What a step of a machine does, a line each: the instruction, what it writes, its call, the events in their order, the packets that were
+-- accepted, with their words after the step, the other words that change, what the call answers, a fault of the task, what is written to the
+-- console, the tick, the key that came, and the stop. Each line begins with the step, and where the machine stood before it.
 unfoldable pub step_lines : State → Stepped → List ℕ
 step_lines s x =
     let m = moment_of s in
     let b = before_of s in
-    lines_before m b s
-    ++ (flat_map (event_line m) x.events ++ (told_lines m (words_of x.state) (told_of x.events) ++ lines_after m b x.bytes x.state))
+    lines_before m b s ++ (turn_lines m b s x ++ lines_after m b x.bytes x.state)
 
 -- the lines of the next n steps; a machine that has stopped takes none
 unfoldable pub log_text : ℕ → State → List ℕ

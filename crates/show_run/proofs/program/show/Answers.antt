@@ -1,7 +1,9 @@
-use Rattle.std.proofs.Common.{◌∙◌, sym}
-use Rattle.show_run.proofs.AnswerParts.{Answers-usage}
+use Rattle.program_answers.proofs.AnswerParts.{Answers-nothing}
+use Rattle.show_run.proofs.AnswerParts.{leaves-memory}
 use Rattle.show_run.proofs.program.show.Goals as goal
 
-pub returns-in-None-clause-answer : goal.returns-in-None-clause-answer
-returns-in-None-clause-answer g c =
-    rw c.status_after.ensures (Answers-usage _ _ _ _ c.write_usage.result (sym c.show_of.ensures ∙ c.in-None.is) c.write_usage.ensures.text)
+pub returns-in-Err-clause-answer : goal.returns-in-Err-clause-answer
+returns-in-Err-clause-answer g c = Answers-nothing _ _
+
+pub returns-in-Err-clause-source : goal.returns-in-Err-clause-source
+returns-in-Err-clause-source g c = leaves-memory _ _ _ c.in-Err.ensures.memory

@@ -1,4 +1,4 @@
-use Rattle.std.proofs.Common.{◌≡◌, ◌∙◌, ◌++◌, ◌∷◌, [], ap, sym, take}
+use Rattle.std.proofs.Common.{◌∙◌, ◌++◌, ◌∷◌, [], ap, sym, take}
 use Rattle.program_answers.proofs.TraceLog.TracedNotes.{Notes-more, Traced-lost, Traced-more, failed-works}
 use Rattle.program_answers.specs.TraceLog.Marks.{kept, marks}
 use Rattle.program_answers.specs.TraceLog.Trails.{events_of}

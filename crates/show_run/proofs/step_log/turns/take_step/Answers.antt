@@ -8,7 +8,7 @@ use Rattle.program_answers.proofs.TraceLog.GivenLines.{GivesPending-all}
 use Rattle.show_run.specs.declared.step_log.moments.Moment.{Moment}
 use Rattle.show_run.specs.StepLog.Events.{event_line}
 use Rattle.show_run.proofs.StepLog.GivenBack.{cut-behind}
-use Rattle.show_run.proofs.step_log.steps.take_step.Goals as goal
+use Rattle.show_run.proofs.step_log.turns.take_step.Goals as goal
 
 pub returns-in-Err-clause-text : goal.returns-in-Err-clause-text
 returns-in-Err-clause-text g c =

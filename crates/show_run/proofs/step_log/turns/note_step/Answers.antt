@@ -3,7 +3,7 @@ use Rattle.program_answers.specs.TraceLog.Marks.{kept}
 use Rattle.program_answers.specs.TraceLog.Trails.{events_of}
 use Rattle.program_answers.proofs.TraceLog.MarkedLists.{NotesAll-rest, marked}
 use Rattle.show_run.proofs.StepLog.GivenBack.{moments-same}
-use Rattle.show_run.proofs.step_log.steps.note_step.Goals as goal
+use Rattle.show_run.proofs.step_log.turns.note_step.Goals as goal
 
 pub returns : goal.returns
 returns g c =

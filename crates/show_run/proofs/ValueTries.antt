@@ -1,0 +1,6 @@
+pub mod SetValues
+pub mod LongerSpans
+pub mod AddedTries
+pub mod Groupings
+pub mod LawfulSettings
+pub mod TriedValues

@@ -1,0 +1,6 @@
+use Rattle.std.proofs.Common.{◌≡◌, ◌++◌, drop, map, take}
+use Rattle.show_run.specs.ValueTries.Settings.{line_with_priority}
+use Rattle.show_run.proofs.value_tries.settings.set_priorities.Given as goal
+
+abbrev pub invariant-loop-line : goal.invariant-loop-line
+invariant-loop-line l = l.lines ≡ map (line_with_priority l.task l.priority) (take l.line-index l.fn.lines) ++ drop l.line-index l.fn.lines
