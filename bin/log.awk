@@ -5,8 +5,8 @@
 # ---- which lines are wanted
 
 function begin_kinds(n, w, i) {
-    n = split("call refused send return take dequeue run console key fault die step tick end", w, " ")
-    for (i = 1; i <= n; i++) is_shown[w[i]] = kinds == "" ? w[i] != "step" && w[i] != "tick" : index(kinds, " all ") || index(kinds, " " w[i] " ")
+    n = split("call refused send return take dequeue run console key fault die step write tick end", w, " ")
+    for (i = 1; i <= n; i++) is_shown[w[i]] = kinds == "" ? w[i] !~ /^(step|write|tick)$/ : index(kinds, " all ") || index(kinds, " " w[i] " ")
     if (index(kinds, " packet ")) is_shown["send"] = is_shown["return"] = is_shown["take"] = is_shown["dequeue"] = 1
     are_packets_shown = is_shown["send"] || is_shown["return"] || is_shown["refused"]
 }
@@ -151,6 +151,14 @@ function tell_console() {
     console = ""
 }
 
+# The words that were written: those of the instruction come first.
+function tell_writes(from, to, w) {
+    for (; from <= to; from++) {
+        split(write[from], w, " ")
+        write_line("write", "", "word " w[1] ": " w[2] " -> " w[4])
+    }
+}
+
 # The i-th event.
 function tell_event(i, words, p, from, to) {
     words = event[i]
@@ -191,6 +199,7 @@ function tell_step(i, last, w) {
     last = turn_end()
     if (dies) tell_death()
     else if (instruction != "") write_line("step", "", instruction)
+    tell_writes(1, own_writes)
     if (call != "") tell_call()
     for (i = 1; i < last && event[i] !~ /^take the (clock|keyboard|output) /; i++) tell_event(i)
     if (fault != "") { split(fault, w, " "); tell_fault(w[1], w[3], "the task is held") }
@@ -200,6 +209,7 @@ function tell_step(i, last, w) {
     if (key != "") write_line("key", "", "the key \"" shown_byte(key) "\" comes in")
     for (; i < last; i++) tell_event(i)
     tell_console()
+    tell_writes(own_writes + 1, writes)
     for (; i <= events; i++) tell_event(i)
 }
 
@@ -214,7 +224,7 @@ function tell_death(words) {
 # The next line is of another step.
 function begin_step() {
     step = $1; tick = $2; task = $3; pc = $4
-    events = told = has_tick = dies = 0
+    events = told = writes = own_writes = has_tick = dies = 0
     instruction = call = answer = second = refusal = fault = console = key = ""
 }
 
@@ -270,6 +280,7 @@ $5 == "step" {
     next
 }
 $5 == "die" { dies = 1; next }
+$5 == "write" { write[++writes] = rest(); if (call == "" && events == 0) own_writes = writes; next }
 $5 == "call" { call = rest(); next }
 $5 == "packet" { packet[++told] = $8 " " $10 " " $12 " " $14; next }
 $5 == "answer" { if ($6 == "=") { answer = $7 + 0; second = $9 + 0 } next }

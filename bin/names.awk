@@ -18,6 +18,7 @@ function read_session(line, n, w, name, i) {
     while ((getline line < session) > 0) {
         sub(/\r$/, "", line)
         if (line ~ /^:/) {
+            if (bare && !files) { gsub(/[^0-9a-fA-F]/, "", line); bare_code = bare_code line }
             if (name == "") continue
             text[name] = text[name] " " substr(line, 2)
             continue
@@ -200,6 +201,18 @@ function read_codes(line, w) {
         sub(/; address named: .*/, "", w[3])
         meaning[w[1], w[2]] = w[3]
     }
+}
+
+# Flags, and which bits of them are set.
+function flag_words(flags, n, i, count, bit, words) {
+    for (n = flags; n > 0; i++) {
+        if (n % 2 == 1) bit[++count] = i + 0
+        n = int(n / 2)
+    }
+    if (count == 32) return flags " (all bits)"
+    words = flags (count == 1 ? " (bit " : " (bits ") bit[1]
+    for (i = 2; i <= count; i++) words = words (i == count ? " and " : ", ") bit[i]
+    return words ")"
 }
 
 function who(t) {

@@ -55,6 +55,15 @@ function set_state(lane, what) {
     now_state[lane] = what
 }
 
+# The task has the second number of the words as its priority from this row on.
+function set_priority(lane, words) {
+    sub(/^[0-9]+, /, "", words)
+    sub(/\).*/, "", words)
+    use(lane)
+    moves_to[rows] = lane
+    new_priority[rows] = words
+}
+
 # ---- reading
 
 BEGIN { CONVFMT = "%.0f" }
@@ -149,6 +158,7 @@ function read_event(task, kind, words, lane, p, n) {
         if (words ~ /^taskwait\(\) waits/) { leaving = lane; leaves = "wait" }
         else if (words !~ /^(taskwait|qpkt|wrch)\(/) { n = words; sub(/ = -1$/, "", n); sub(/ = -1, in /, ", in ", n); say(n, ""); mark(lane, "dot") }
         if (words ~ /^hold\(/) { n = words; sub(/^hold\(/, "", n); hold(n + 0) }
+        if (words ~ /^changepri\(/) { n = words; sub(/^changepri\(/, "", n); set_priority(n + 0, n) }
         if (words ~ /^release\(/) { n = words; sub(/^release\(/, "", n); set_state(n + 0, n + 0 in held_from ? held_from[n + 0] : "ready") }
     } else if (kind == "console") {
         if (lane == "" || words_output()) say("writes " words, "")
@@ -298,6 +308,12 @@ function draw_mark(lane, at, look, x) {
     else if (look == "key") { line(x - 14, at, x - 6, at, "send"); put(sprintf("<path d=\"M%.1f %.1f l-6 -3 l0 6 z\" class=\"tip send\"/>", x - 1, at))}
 }
 
+# A priority beside the lane, at its right where there is room before the words.
+function draw_priority(x, at, words) {
+    if (x + 7 + 4.9 * length(words) < text_x - 4) text(x + 7, at, words, "small")
+    else text(x - 7, at, words, "small end")
+}
+
 # What passed between two rows with many steps in between.
 function quiet_words(count, i, who, ticks) {
     for (i = 1; i <= lanes; i++) if (lane_at[i] > 0 && state[lane_at[i]] == "run") who = "task " lane_at[i] " runs"
@@ -356,6 +372,10 @@ function draw_row(i, j, n, count, height, at, top) {
     }
     n_arrows = 0
     over = 1
+    if (row in moves_to) {
+        priority_of[moves_to[row]] = new_priority[row]
+        draw_priority(lane_x[moves_to[row]], at + 3, new_priority[row])
+    }
     for (i = 1; i <= arrows[row]; i++) {
         if (arrow_from[row, i] == arrow_to[row, i]) draw_mark(arrow_from[row, i], at + 7 * (n_arrows > 0 ? n_arrows - 1 : 0), arrow_look[row, i])
         else draw_arrow(arrow_from[row, i], arrow_to[row, i], at + 7 * n_arrows++, arrow_look[row, i])
