@@ -134,7 +134,7 @@ function code_at_cursor({ story, cursor, at_cursor }) {
 
 /** The lines of the log around a step: `{node, from, to}`, where from and to are the steps of the first and the last line. */
 function log_table({ story, cursor }, has_steps) {
-  const shown = story.lines.filter(({ kind }) => has_steps || !story.rows || kind !== 'step');
+  const shown = story.lines.filter(({ kind }) => has_steps || !story.rows || (kind !== 'step' && kind !== 'write'));
   const now = shown.findIndex(({ step }) => step >= cursor);
   const first = Math.max(0, Math.min(shown.length - MOST_LINES, (now < 0 ? shown.length : now) - MOST_LINES / 2));
   const lines = shown.slice(first, first + MOST_LINES);

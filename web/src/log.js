@@ -32,18 +32,19 @@ export function shown_letter(byte) {
   return code >= 32 && code < 127 ? String.fromCharCode(code) : `\\x${code.toString(16).padStart(2, '0')}`;
 }
 
-/** The lines of each step, as one record: `{step, tick, task, pc, step_line, call, answer, refused, fault, console, key, has_tick, is_dead, stop, events, packets}`. */
+/** The lines of each step, as one record: `{step, tick, task, pc, step_line, call, answer, refused, fault, console, key, has_tick, is_dead, stop, events, packets, writes}`. */
 export function steps_of_log(lines) {
   const steps = [];
   let now = null;
   for (const line of lines) {
     if (!now || now.step !== line.step) {
-      now = { step: line.step, tick: line.tick, task: line.task, pc: line.pc, events: [], packets: [], console: '' };
+      now = { step: line.step, tick: line.tick, task: line.task, pc: line.pc, events: [], packets: [], writes: [], console: '' };
       steps.push(now);
     }
     const { kind, words } = line;
     if (kind === 'step') now.step_line = words;
     else if (kind === 'packet') now.packets.push(words);
+    else if (kind === 'write') now.writes.push(words);
     else if (kind === 'console') now.console += words.slice(1, -1);
     else if (kind === 'tick') { now.has_tick = true; now.tick = Number(words); }
     else if (['accept', 'take', 'dequeue', 'run'].includes(kind)) now.events.push({ kind, words });

@@ -44,7 +44,8 @@ function read_state(text) {
     } else if (line.startsWith('after ')) state.said = line;
     else if (line.startsWith('REGS ')) state.registers = read_registers(line);
     else if (/^[0-9]+ /.test(line)) state.next = line.replace(/^[0-9]+ /, '');
-    else state.who = line;
+    // who runs, or that nobody does, and then which tasks wait for ever
+    else state.who = [state.who, line].filter(Boolean).join('; ');
   }
   return state;
 }
