@@ -4,7 +4,7 @@ import { empty_project } from './project.js';
 
 /** What each example shows, and its names in order, from the list in the manual. */
 export function list_of_examples(map) {
-  const rows = [...(map.get('docs/manual/README.md') ?? '').matchAll(/^\| `([a-z-]+)` \| (.*) \|$/gm)];
+  const rows = [...(map.get('docs/manual/README.md') ?? '').matchAll(/^\| `([a-z/-]+)` \| (.*) \|$/gm)];
   return rows.map(([, name, shows]) => ({ name, shows: shows.replace(/\[([^\]]*)\]\([^)]*\)/g, '$1').replace(/`/g,
     '') })).filter(({ name }) => files_of_example(map, name).length > 0);
 }

@@ -22,7 +22,7 @@ function resolved(from, address) {
 
 /** Where a path is shown here, or null. */
 function target_of(map, path) {
-  const example = /^examples\/([a-z-]+)(\/|$)/.exec(path);
+  const example = /^examples\/([a-z-]+(?:\/mended)?)(\/|$)/.exec(path);
   if (example) return `examples/${example[1]}`;
   if (map.has(path)) return path;
   return map.has(`${path}/README.md`) ? `${path}/README.md` : null;
@@ -55,7 +55,7 @@ function add_openers(body, map, path) {
     const projects = session_commands(text).map((words) => (words.some((word) => word.endsWith('.s')) ? null
       : project_of_words(words, text_of, title_of(map.get(path))))).filter(Boolean);
     const command = /\.\/tripos (dump|trace)/.exec(text)?.[1] ?? 'run';
-    const example = /\bexamples\/([a-z-]+)\/session/.exec(text)?.[1];
+    const example = /\bexamples\/([a-z-]+(?:\/mended)?)\/session/.exec(text)?.[1];
     if (projects.length === 0 && example && map.has(`examples/${example}/session`)) {
       block.after(make('p', { class: 'opener' }, button(`▶ Open the example ${example}`,
         () => open_instead({ ...example_named(map, example), command }), { class: 'small' })));

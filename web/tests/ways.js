@@ -201,7 +201,7 @@ const ways = {
 
   async 'pictures'() {
     for (const path of [...map.keys()].filter((it) => it.endsWith('/picture.svg'))) {
-      await open_example(path.split('/')[1]);
+      await open_example(path.slice('examples/'.length, -'/picture.svg'.length));
       await go('happened');
       await tab.until("document.querySelectorAll('svg.picture .spot').length > 5 && document.getElementById('happened-said').textContent !== ''");
       await same_picture(path, String(map.get(path)));
