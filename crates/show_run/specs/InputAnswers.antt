@@ -14,6 +14,7 @@ use Rattle.show_run.specs.declared.commands.Show.{Show}
 abbrev pub IsShown : Show → List ℕ → Answer → Type 0
 IsShown asked text a = a ≡ session_answer asked (session_of text)
 
+-- the words that there are, for words that ask for nothing
 abbrev pub usage_answer : Answer
 usage_answer = record { status = Usage; bytes = usage_text }
 

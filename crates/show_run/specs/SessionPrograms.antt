@@ -23,6 +23,7 @@ form_programs (Code bytes) = []
 form_programs (File name bytes) = file_programs name (module_of bytes)
 form_programs (Task id pri stack names) = []
 
+-- what a line gives, if it gives a program
 abbrev pub line_programs : SessionLine → List Program
 line_programs line = form_programs line.form
 

@@ -23,6 +23,7 @@ shown_state programs go s = state_text programs (run go s).state
 abbrev pub skipped : ℕ → ℕ → ℕ
 skipped first go = min (first - 1) go
 
+-- how many steps are shown, of a run of so many
 abbrev pub shown : ℕ → ℕ → ℕ → ℕ
 shown first last go = min last go - skipped first go
 
@@ -34,6 +35,7 @@ boot_part first s = if first == 0 then boot_lines s else []
 abbrev pub steps_part : ℕ → ℕ → ℕ → State → List ℕ
 steps_part first last go s = log_text (shown first last go) (run (skipped first go) s).state
 
+-- the boot, where it is asked for, and the steps
 abbrev pub log_of : ℕ → ℕ → ℕ → State → List ℕ
 log_of first last go s = boot_part first s ++ steps_part first last go s
 
@@ -56,6 +58,7 @@ abbrev pub machine_answer : Show → List Program → ℕ → Result Stepped Ref
 machine_answer asked programs go (Ok x) = shown_answer (shown_text asked programs go x.state)
 machine_answer asked programs go (Err r) = no_boot_answer r
 
+-- what is asked for of a session, or the refusal of its text
 abbrev pub session_answer : Show → Result Session Refusal → Answer
 session_answer asked (Ok s) = machine_answer asked (named_programs asked s) s.go (boot s)
 session_answer asked (Err r) = refused_answer r

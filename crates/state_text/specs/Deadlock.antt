@@ -38,6 +38,7 @@ is_waiting t = is_guest_id t.id && awaits_packet t
 abbrev pub is_held_up : Task → Bool
 is_held_up t = t.held && is_ready (record t { held = false })
 
+-- a task waits or is held, and goes on only by what another one does
 abbrev pub is_stuck : Task → Bool
 is_stuck t = is_waiting t || is_held_up t
 

@@ -14,6 +14,7 @@ loaded_words m p = drop 1 (module_row 0 m p.hunks)
 abbrev pub is_loaded : List ℕ → ℕ → Program → Bool
 is_loaded words m p = starts_with nat_eq (drop (m + 1) words) (loaded_words m p)
 
+-- the name of a program, which is that of its file
 abbrev pub program_name : Program → List ℕ
 program_name p = p.name
 

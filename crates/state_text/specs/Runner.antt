@@ -14,6 +14,7 @@ abbrev pub has_member : {X : Type 0} → List X → Bool
 has_member [] = false
 has_member (x ∷ xs) = true
 
+-- whether a task is dead: its function has returned
 abbrev pub is_dead : Task → Bool
 is_dead t = t.field == dead
 
@@ -34,6 +35,7 @@ idle_words l keys =
     if not (can_answer l keys) then codes "nothing can ever come" else
     codes "all wait, are held or are dead"
 
+-- that nobody runs, and why
 abbrev pub idle_line : Lists → Bool → List ℕ
 idle_line l keys = joined (codes "nobody runs: " ∷ idle_words l keys ∷ codes "\n" ∷ [])
 

@@ -53,6 +53,7 @@ is_end (Quit code) = true
 is_end Finish = true
 is_end (Fault code address task) = false
 
+-- whether PC is after the call that stopped the machine; one that goes on is before its next instruction
 abbrev pub is_past : Option Stop → Bool
 is_past None = false
 is_past (Some stop) = is_end stop

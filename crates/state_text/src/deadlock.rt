@@ -13,7 +13,8 @@ use crate::tasks::awaits_packet;
 use byte_streams::Piece::{Decimal, Text};
 use byte_streams::{Output, Sink, SinkFault, gather, gather_pieces};
 use kernel_lists::{FIRST_GUEST, TcbField, field, tasks};
-use kernel_model::numbers::{HELD, INTERRUPTED, RUNS};
+use kernel_model::is_held_state;
+use kernel_model::numbers::{INTERRUPTED, RUNS};
 use tripos_machine::Machine;
 use word_store::Store;
 
@@ -208,7 +209,7 @@ fn is_held_up(store: &Store, t: u32) -> bool
     ensures { result ≡ is_held_up (task_in store.now t) }
 {
     let state = field(store, t, TcbField::State);
-    if state / HELD % 2 != 1 {
+    if !is_held_state(state) {
         return false;
     }
     match state - state % 4 {

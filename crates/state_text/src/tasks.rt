@@ -19,7 +19,8 @@ use crate::queues::is_empty_queue;
 use byte_streams::Piece::{Decimal, Text};
 use byte_streams::{Output, Sink, SinkFault, gather, gather_pieces};
 use kernel_lists::{TcbField, field, tasks};
-use kernel_model::numbers::{FAULT_ADDRESS, FAULT_WORD, HELD, INTERRUPTED, REPORTED, RUNS, WAITS};
+use kernel_model::is_held_state;
+use kernel_model::numbers::{FAULT_ADDRESS, FAULT_WORD, INTERRUPTED, REPORTED, RUNS, WAITS};
 use word_store::Store;
 
 /// Gathers the lines of each task, in the order of the chain.
@@ -122,7 +123,7 @@ fn gather_state_words<K: Sink>(
             Decimal(u64::from(field(store, t, TcbField::Pri))),
             Text(b", "),
             Text(field_words(state - state % 4)),
-            Text(held_words(state / HELD % 2 == 1)),
+            Text(held_words(is_held_state(state))),
         ],
     )
 }

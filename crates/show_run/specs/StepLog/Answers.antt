@@ -29,6 +29,7 @@ answer_at s t = answer_saved (task_in s t)
 unfoldable pub answer_of_task : ℕ → List Task → Option CallAnswer
 answer_of_task id ts = option_map answer_saved (find (λ t. t.id == id) ts)
 
+-- what a task that does not run has of its call; a machine without a kernel has none
 abbrev pub answer_elsewhere : ℕ → State → Option CallAnswer
 answer_elsewhere id (Bare m) = None
 answer_elsewhere id (Full k) = answer_of_task id k.lists.tasks
@@ -42,19 +43,24 @@ answer_of id s =
 
 -- ---- its lines
 
+-- that the call was refused, and why, where 0 and a code are how it says so
 abbrev pub refused_lines : Moment → Bool → ℕ → ℕ → List ℕ
 refused_lines m refuses first second = if not refuses then [] else if first == 0 then refusal_lines m second else []
 
+-- both words of an answer, as signed numbers
 abbrev pub values_text : ℕ → ℕ → List ℕ
 values_text first second = joined (codes "answer = " ∷ signed_decimal (signed first) ∷ codes ", second " ∷ signed_decimal (signed second) ∷ [])
 
+-- the answer, and whether it is a refusal
 abbrev pub given_lines : Moment → Bool → ℕ → ℕ → List ℕ
 given_lines m refuses first second = line m (values_text first second) ++ refused_lines m refuses first second
 
+-- that the task waits, or what it was given
 abbrev pub call_answer_lines : Moment → Bool → CallAnswer → List ℕ
 call_answer_lines m refuses Waits = line m (codes "answer waits")
 call_answer_lines m refuses (Results first second) = given_lines m refuses first second
 
+-- what is known of the answer, where something is
 abbrev pub made_lines : Moment → Bool → Option CallAnswer → List ℕ
 made_lines m refuses None = []
 made_lines m refuses (Some answer) = call_answer_lines m refuses answer

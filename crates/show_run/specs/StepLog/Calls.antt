@@ -60,6 +60,7 @@ told (Wrch ch) = unrefused "wrch" (ch ∷ [])
 told (MulDiv a b c) = unrefused "muldiv" (a ∷ b ∷ c ∷ [])
 told (AddModule id m) = refusable "addmodule" (id ∷ m ∷ [])
 
+-- a call that was read, and none where its arguments are outside or the number is no call's
 abbrev pub told_if_read : Result KernelCall CallOutcome → Option Call
 told_if_read (Ok call) = Some (told call)
 told_if_read (Err outcome) = None
@@ -72,6 +73,7 @@ kernel_call words r = told_if_read (call_of words r)
 abbrev pub bare_call : List ℕ → Regs → Option Call
 bare_call words r = if is_ok (call_answer words r) then kernel_call words r else None
 
+-- the call that is made with these registers, on a bare machine or in a kernel
 abbrev pub call_made : Bool → List ℕ → Regs → Option Call
 call_made bare words r = if bare then bare_call words r else kernel_call words r
 
@@ -92,20 +94,24 @@ separated [] = []
 separated (a ∷ []) = signed_decimal (signed a) ∷ []
 separated (a ∷ rest) = signed_decimal (signed a) ∷ codes ", " ∷ separated rest
 
+-- the line of a call: its name, and its arguments in brackets
 abbrev pub call_line : Moment → Call → List ℕ
 call_line m c = line m (joined (codes "call " ∷ c.name ∷ codes "(" ∷ separated c.arguments ++ codes ")" ∷ []))
 
+-- that line, where a call is made
 abbrev pub call_lines : Moment → Option Call → List ℕ
 call_lines m None = []
 call_lines m (Some c) = call_line m c
 
 -- ---- the same, as the code has it
 
+-- the arguments as a list
 abbrev pub arguments_seen : Arguments → List ℕ
 arguments_seen Zero = []
 arguments_seen (One a) = a ∷ []
 arguments_seen (Two a b) = a ∷ b ∷ []
 arguments_seen (Three a b c) = a ∷ b ∷ c ∷ []
 
+-- a call as the definitions have it
 abbrev pub call_seen : CallInCode → Call
 call_seen c = record { name = c.name.now; arguments = arguments_seen c.arguments; refuses = c.refuses }

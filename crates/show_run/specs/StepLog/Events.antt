@@ -34,14 +34,17 @@ party q =
     if word_of q == PENDING then named (codes "the reads at the console") else
     record { words = codes "task "; number = signed_decimal q }
 
+-- a packet comes into a queue
 abbrev pub accept_text : Named → ℕ → Named → List ℕ
 accept_text to packet from =
     joined (codes "accept packet " ∷ decimal packet ∷ codes " from " ∷ from.words ∷ from.number ∷ codes " to " ∷ to.words ∷ to.number ∷ [])
 
+-- the first packet of a queue is taken
 abbrev pub take_text : Named → ℕ → Named → List ℕ
 take_text taker packet from =
     joined (codes "take " ∷ taker.words ∷ taker.number ∷ codes " takes packet " ∷ decimal packet ∷ codes " of " ∷ from.words ∷ from.number ∷ [])
 
+-- a packet leaves a queue before its turn
 abbrev pub dequeue_text : Named → ℕ → List ℕ
 dequeue_text owner packet =
     joined (codes "dequeue packet " ∷ decimal packet ∷ codes " leaves the queue of " ∷ owner.words ∷ owner.number ∷ [])

@@ -24,16 +24,19 @@ record_at s t = recorded (task_in s t)
 unfoldable pub record_of_task : ℕ → List Task → Option FaultRecord
 record_of_task id ts = option_map recorded (find (λ t. t.id == id) ts)
 
+-- what is recorded of the task with the number; a machine without a kernel records nothing
 abbrev pub record_of : ℕ → State → Option FaultRecord
 record_of id (Bare m) = None
 record_of id (Full k) = record_of_task id k.lists.tasks
 
 -- ---- its line
 
+-- whether the record is the one from before
 abbrev pub is_same : Option FaultRecord → FaultRecord → Bool
 is_same None now = false
 is_same (Some before) now = (before.code == now.code) && (before.address == now.address)
 
+-- the line of a fault that is recorded
 abbrev pub recorded_line : Moment → FaultRecord → List ℕ
 recorded_line m f = line m (joined (codes "fault " ∷ decimal f.code ∷ codes " at " ∷ decimal f.address ∷ []))
 

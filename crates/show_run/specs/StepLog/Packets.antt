@@ -32,6 +32,7 @@ packet_text words packet =
     joined (codes "packet " ∷ decimal packet ∷ codes " type " ∷ packet_word words packet KIND ∷ codes ", results " ∷ packet_word words packet RES1
     ∷ codes " and " ∷ packet_word words packet RES2 ∷ codes ", argument " ∷ packet_word words packet FIRST ∷ [])
 
+-- the line of a packet, where an event has accepted one
 abbrev pub packet_lines : Moment → List ℕ → Option ℕ → List ℕ
 packet_lines m words None = []
 packet_lines m words (Some packet) = line m (packet_text words packet)

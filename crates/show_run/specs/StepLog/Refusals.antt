@@ -37,6 +37,7 @@ refusal code =
     if code == 28 then Some (codes "the task has eight modules") else
     None
 
+-- the line of a code that has a meaning
 abbrev pub meant_lines : Moment → ℕ → Option (List ℕ) → List ℕ
 meant_lines m code None = []
 meant_lines m code (Some text) = line m (joined (codes "refused code " ∷ decimal code ∷ codes ": " ∷ text ∷ []))

@@ -55,6 +55,7 @@ listed_line m (Some b) words = listed_instruction m words
 abbrev pub guest_line : Moment → List ℕ → List ℕ
 guest_line m words = if m.pc == 0 then line m (codes "die PC is 0") else listed_line m (byte_at words m.pc) words
 
+-- the line of what a guest does next, where one is next
 abbrev pub guest_lines : Moment → State → List ℕ
 guest_lines m s = if is_guest_next s then guest_line m (words_of s) else []
 
@@ -78,6 +79,7 @@ pub record Before : Type 0 where
   -- what is recorded of a fault of the task that runs
   pub fault : Option FaultRecord
 
+-- what the lines need of this state
 unfoldable pub before_of : State → Before
 before_of s = record {
   call = call_of s;
@@ -96,6 +98,7 @@ before_seen b = record { call = option_map call_seen b.call; count = b.keys.coun
 abbrev pub tick_lines : Moment → ℕ → List ℕ
 tick_lines m tick = if m.tick == tick then [] else line m (joined (codes "tick " ∷ decimal tick ∷ []))
 
+-- the byte of a key that has come
 abbrev pub key_line : Moment → Option (ℕ × ℕ) → List ℕ
 key_line m None = []
 key_line m (Some key) = line m (joined (codes "key " ∷ decimal key.1 ∷ []))
@@ -104,6 +107,7 @@ key_line m (Some key) = line m (joined (codes "key " ∷ decimal key.1 ∷ []))
 abbrev pub key_lines : Moment → ℕ → Option (ℕ × ℕ) → ℕ → List ℕ
 key_lines m count first left = if nat_le count left then [] else key_line m first
 
+-- why a machine has stopped, in words
 abbrev pub stop_text : Stop → List ℕ
 stop_text Steps = codes "stop steps"
 stop_text (Quit code) = joined (codes "stop quit " ∷ decimal code ∷ [])
@@ -132,9 +136,11 @@ turn_lines m b s x =
 abbrev pub end_lines : Moment → Before → State → List ℕ
 end_lines m b s = answer_lines m b.call s ++ fault_lines m b.fault (record_of m.task s)
 
+-- the tick, the key and the stop, each where it has come
 abbrev pub change_lines : Moment → Before → State → List ℕ
 change_lines m b s = tick_lines m (tick_of s) ++ (key_lines m b.count b.first (length (keys_to_come s)) ++ stop_lines m (stop_of s))
 
+-- what is known after the step, of the bytes that it wrote and of the state that it left
 abbrev pub lines_after : Moment → Before → List ℕ → State → List ℕ
 lines_after m b bytes s = end_lines m b s ++ (console_lines m bytes ++ change_lines m b s)
 

@@ -46,6 +46,7 @@ form_with_priority task priority (Code bytes) = Code bytes
 form_with_priority task priority (File name bytes) = File name bytes
 form_with_priority task priority (Task id pri stack names) = Task id (if id == task then priority else pri) stack names
 
+-- the same of a line of a session
 abbrev pub line_with_priority : ℕ → ℕ → SessionLine → SessionLine
 line_with_priority task priority line = record line { form = form_with_priority task priority line.form }
 
@@ -55,6 +56,7 @@ form_with_stack task highest (Code bytes) = Code bytes
 form_with_stack task highest (File name bytes) = File name bytes
 form_with_stack task highest (Task id pri stack names) = Task id pri (if id == task then highest else stack) names
 
+-- the same of a line of a session
 abbrev pub line_with_stack : ℕ → ℕ → SessionLine → SessionLine
 line_with_stack task highest line = record line { form = form_with_stack task highest line.form }
 

@@ -22,9 +22,11 @@ tries_in asked s = map (try_of asked.setting s) (flat_map values_of asked.spans)
 abbrev pub tries_text : List Try → List ℕ
 tries_text tries = gathering_text (groups_of tries) (count_of tries)
 
+-- what the tries of a session come to
 abbrev pub session_answer : Asked → Session → Answer
 session_answer asked s = record { status = Done; bytes = tries_text (tries_in asked s) }
 
+-- that, or the refusal of the session's text
 abbrev pub tries_answer : Asked → Result Session Refusal → Answer
 tries_answer asked (Ok s) = session_answer asked s
 tries_answer asked (Err r) = refused_answer r
@@ -33,5 +35,6 @@ tries_answer asked (Err r) = refused_answer r
 abbrev pub IsTried : Asked → List ℕ → Answer → Type 0
 IsTried asked text a = a ≡ tries_answer asked (session_of text)
 
+-- the same, as the code has what is asked for
 abbrev pub IsTriedBy : Tries → List ℕ → Answer → Type 0
 IsTriedBy tries text a = IsTried (seen tries) text a

@@ -13,10 +13,12 @@ use Rattle.show_run.specs.declared.value_tries.spans.Span.{Span}
 abbrev pub quit_text : ℕ → List ℕ
 quit_text code = joined (codes "quit " ∷ decimal code ∷ [])
 
+-- a fault that stopped the machine: its code, its address and its task
 abbrev pub fault_text : ℕ → ℕ → ℕ → List ℕ
 fault_text code address task =
     joined (codes "fault " ∷ decimal code ∷ codes " at " ∷ decimal address ∷ codes " in task " ∷ decimal task ∷ [])
 
+-- each way in which a run stops, in words
 abbrev pub stop_text : Stop → List ℕ
 stop_text Steps = codes "steps"
 stop_text (Quit code) = quit_text code
@@ -27,6 +29,7 @@ stop_text (Fault code address task) = fault_text code address task
 abbrev pub no_boot_text : ℕ → ℕ → List ℕ
 no_boot_text line code = joined (codes "no boot " ∷ decimal line ∷ codes " " ∷ decimal code ∷ [])
 
+-- each way in which a try ends, in words
 abbrev pub ending_text : Ending → List ℕ
 ending_text (Stopped stop) = stop_text stop
 ending_text (NoBoot line code) = no_boot_text line code
@@ -38,6 +41,7 @@ span_text span =
     if span.first == span.last then joined (codes " " ∷ decimal span.first ∷ [])
     else joined (codes " " ∷ decimal span.first ∷ codes "-" ∷ decimal span.last ∷ [])
 
+-- all spans of values, in their order
 abbrev pub spans_text : List Span → List ℕ
 spans_text spans = flat_map span_text spans
 
@@ -59,12 +63,15 @@ values_text spans = codes "\nvalues" ++ spans_text spans
 abbrev pub bytes_text : List ℕ → List ℕ
 bytes_text bytes = joined (codes "\n" ∷ bytes ∷ codes "\n" ∷ [])
 
+-- the values and the bytes of a group
 abbrev pub rest_text : Group → List ℕ
 rest_text group = values_text group.spans ++ bytes_text group.outcome.bytes
 
+-- all that is written of a group
 abbrev pub group_text : Group → List ℕ
 group_text group = line_text group ++ rest_text group
 
+-- all groups, in the order of the first try of each
 abbrev pub groups_text : List Group → List ℕ
 groups_text groups = flat_map group_text groups
 

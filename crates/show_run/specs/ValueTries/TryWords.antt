@@ -16,9 +16,11 @@ pub record Asked : Type 0 where
   -- the values, in the order in which they are tried
   pub spans : List Span
 
+-- both as one
 abbrev pub asked : Setting → List Span → Asked
 asked setting spans = record { setting = setting; spans = spans }
 
+-- the same, as the code has it
 abbrev pub seen : Tries → Asked
 seen tries = asked tries.setting tries.spans.items
 
@@ -26,6 +28,7 @@ seen tries = asked tries.setting tries.spans.items
 abbrev pub span_from : ℕ → ℕ → Option Span
 span_from first last = if nat_le first last then Some (record { first = first; last = last }) else None
 
+-- the numbers between two that are written in decimal
 abbrev pub span_between : List ℕ → List ℕ → Option Span
 span_between first last = option_and_then (λ m. option_and_then (λ n. span_from m n) (number_of last)) (number_of first)
 
@@ -34,6 +37,7 @@ abbrev pub span_at : List ℕ → Option ℕ → Option Span
 span_at word (Some dash) = span_between (take dash word) (drop (dash + 1) word)
 span_at word None = option_map span_of (number_of word)
 
+-- what a word says: one number, or the numbers between two
 abbrev pub span_in : List ℕ → Option Span
 span_in word = span_at word (position (λ c. c == 45) word)
 
@@ -56,9 +60,11 @@ setting_at what number =
     if bytes_eq what (codes "stack") then Some (Stack number) else
     None
 
+-- the same, where the number is written in decimal
 abbrev pub numbered_setting : List ℕ → List ℕ → Option Setting
 numbered_setting what digits = option_and_then (setting_at what) (number_of digits)
 
+-- a number of a key or of a task, and then the values
 abbrev pub numbered_tries : List ℕ → List (List ℕ) → Option Asked
 numbered_tries what [] = None
 numbered_tries what (digits ∷ words) = option_and_then (λ setting. asked_with setting words) (numbered_setting what digits)
