@@ -7,7 +7,7 @@ use Rattle.std.proofs.lemmas.Nat.{from_le_bytes-to_le_bytes_4}
 use Rattle.word_store.specs.Arithmetic.{add}
 use Rattle.word_store.specs.Bytes.{byte_at, byte_of}
 use Rattle.word_store.proofs.ByteOf.{byte_of_by_shift}
-use Rattle.instruction_set.specs.OperandForms.BytesAt.{StandsAt}
+use Rattle.instruction_set.specs.OperandForms.BytesAt.{HasBytesAt}
 use Rattle.assembly.specs.AssemblyText.HunkWords.{words_of}
 
 -- so many bytes of the code from an offset on
@@ -16,11 +16,11 @@ bytes_from code zero a = []
 bytes_from code (suc n) a = unwrap_or (code a) 0 ∷ bytes_from code n (a + 1)
 
 -- bytes that stand there are these
-pub bytes_standing : (code : ℕ → Option ℕ) (a : ℕ) (bytes : List ℕ) → a + length bytes < 2 ^ 32 → StandsAt code a bytes → bytes ≡ bytes_from code (length bytes) a
-bytes_standing code a [] lt h = refl
-bytes_standing code a (b ∷ bs) lt h =
+pub bytes_from_place : (code : ℕ → Option ℕ) (a : ℕ) (bytes : List ℕ) → a + length bytes < 2 ^ 32 → HasBytesAt code a bytes → bytes ≡ bytes_from code (length bytes) a
+bytes_from_place code a [] lt h = refl
+bytes_from_place code a (b ∷ bs) lt h =
     let next : add a 1 ≡ a + 1 = omega arith in
-    let rest = bytes_standing code (add a 1) bs (omega arith) h.1 in
+    let rest = bytes_from_place code (add a 1) bs (omega arith) h.1 in
     rw h.0 (ap (λ (l : List ℕ). b ∷ l) (rest ∙ ap (bytes_from code (length bs)) next))
 
 -- bytes, and then more

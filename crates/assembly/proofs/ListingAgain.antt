@@ -20,7 +20,7 @@ use Rattle.assembly.specs.PlainCode.{IsLabelled, IsPlainAt, IsPlainCode}
 use Rattle.assembly.specs.Source.{parts_at, source}
 use Rattle.assembly.proofs.CodeBytes.{are_bytes, bytes_behind, bytes_from, words_again}
 use Rattle.assembly.proofs.SourceLines.{IsSaid, said_at}
-use Rattle.assembly.proofs.SourcePrograms.{AreSaid, are_distinct, are_given, are_plain, are_read, bytes_of_lines, ends_at, follow_le, has_its_label, no_global_pairs, no_pairs, no_relocations, pieces_of, program_of, stands_before, table_from, texts_of}
+use Rattle.assembly.proofs.SourcePrograms.{AreSaid, are_distinct, are_given, are_plain, are_read, bytes_of_lines, ends_at, follow_le, has_its_label, no_global_pairs, no_pairs, no_relocations, offset_before, pieces_of, program_of, table_from, texts_of}
 
 front : (P : ℕ → Type 0) (xs ys : List ℕ) → AllByRecursion P (xs ++ ys) → AllByRecursion P xs
 front P [] ys h = tt
@@ -44,7 +44,7 @@ module _ (has_label : ℕ → Bool) (lines : List ListedLine) (h : Hunk) (p : Is
   end_small = omega (arith, size, p.fits)
 
   near : (t : ℕ) → IsLabelled has_label lines t → t < 2 ^ 30
-  near t l = omega (arith, end_small, stands_before first_offset (first_offset + 4 * length p.code) lines p.follow t l.0)
+  near t l = omega (arith, end_small, offset_before first_offset (first_offset + 4 * length p.code) lines p.follow t l.0)
 
   abbrev leads : ℕ → Type 0
   leads t = IsLabelled has_label lines t

@@ -30,7 +30,7 @@ use Rattle.assembly.proofs.AssemblyText.InstructionLemmas.{made, statement_of_ro
 use Rattle.assembly.specs.ModuleListing.Listing.{listed, listed_as}
 use Rattle.assembly.specs.PlainCode.{IsPlainAs, IsPlainAt, IsPlainForm}
 use Rattle.assembly.specs.Source.{label, operand_parts, parts_as, parts_at}
-use Rattle.assembly.proofs.CodeBytes.{bytes_from, bytes_standing}
+use Rattle.assembly.proofs.CodeBytes.{bytes_from, bytes_from_place}
 use Rattle.assembly.proofs.LineParts.{IsPart, parts_read}
 use Rattle.assembly.proofs.SourceNames.{colon_part, decimal_part, decimal_read, label_part, label_read, name_part, tested_bytes}
 use Rattle.assembly.proofs.AssemblyText.SaidLines.{colon-read}
@@ -197,7 +197,7 @@ module _ (code : ℕ → Option ℕ) (leads : ℕ → Type 0) (are_bytes : (a b 
       let bytes = i.byte ∷ operand_bytes row.form i.operand in
       let size : length bytes ≡ i.length = omega (arith, back.2, length-operand_bytes row.form i.operand) in
       let few = size_small row.form in
-      let here : bytes ≡ bytes_from code i.length a = bytes_standing code a bytes (omega (arith, length-operand_bytes row.form i.operand)) back.1 ∙ ap (λ (n : ℕ). bytes_from code n a) size in
+      let here : bytes ≡ bytes_from code i.length a = bytes_from_place code a bytes (omega (arith, length-operand_bytes row.form i.operand)) back.1 ∙ ap (λ (n : ℕ). bytes_from code n a) size in
       let operands = number_operands row.form i back.0 in
       let named = name_part i.byte row e in
       record {
@@ -229,7 +229,7 @@ module _ (code : ℕ → Option ℕ) (leads : ℕ → Type 0) (are_bytes : (a b 
       let lt = near i.target to in
       let bytes = i.byte ∷ back.0 ∷ [] in
       let size : 2 ≡ i.length = sym back.4 in
-      let here : bytes ≡ bytes_from code i.length a = bytes_standing code a bytes (omega arith) back.2 ∙ ap (λ (n : ℕ). bytes_from code n a) size in
+      let here : bytes ≡ bytes_from code i.length a = bytes_from_place code a bytes (omega arith) back.2 ∙ ap (λ (n : ℕ). bytes_from code n a) size in
       let named = name_part i.byte row e in
       let parts : label i.target ∷ [] ≡ operand_parts row.form i = ap (λ (form : Form). operand_parts form i) (sym f) in
       record {
@@ -260,8 +260,8 @@ module _ (code : ℕ → Option ℕ) (leads : ℕ → Type 0) (are_bytes : (a b 
   -- by what is decoded
   said_as : (a byte : ℕ) (o : Option Entry) (d : Result Instr DecodeEnd) → a < 2 ^ 30 → byte ≡ unwrap_or (code a) 0 → byte < 256 → entry byte ≡ o → decoded code a ≡ d → IsPlainAs leads o d → IsSaid code leads a (listed_as o d a byte).length (parts_as o d byte)
   said_as a byte (Some row) (Ok i) small at lt e h plain =
-      let stands = (parts_of code a i h).byte_stands in
-      let same : byte ≡ i.byte = at ∙ ap (λ (o : Option ℕ). unwrap_or o 0) stands in
+      let byte_there = (parts_of code a i h).byte_found in
+      let same : byte ≡ i.byte = at ∙ ap (λ (o : Option ℕ). unwrap_or o 0) byte_there in
       form_said a i row row.form small h (ap entry (sym same) ∙ e) refl plain
   said_as a byte (Some row) (Err end) small at lt e h plain = rw at (byte_said code leads a (subst (λ (b : ℕ). b < 256) at lt))
   said_as a byte None (Ok i) small at lt e h plain = rw at (byte_said code leads a (subst (λ (b : ℕ). b < 256) at lt))

@@ -28,13 +28,13 @@ pub follow_le : (a end : ℕ) (lines : List ListedLine) → Follow a end lines �
 follow_le a end [] follow = omega (arith, follow)
 follow_le a end (line ∷ lines) follow = omega (arith, follow_le (a + line.length) end lines follow.2)
 
-pub stands_before : (a end : ℕ) (lines : List ListedLine) → Follow a end lines → (t : ℕ) → list_any (λ line. line.offset == t) lines ≡ true → t < end
-stands_before a end [] follow t any = cc any
-stands_before a end (line ∷ lines) follow t any =
+pub offset_before : (a end : ℕ) (lines : List ListedLine) → Follow a end lines → (t : ℕ) → list_any (λ line. line.offset == t) lines ≡ true → t < end
+offset_before a end [] follow t any = cc any
+offset_before a end (line ∷ lines) follow t any =
     let le = follow_le (a + line.length) end lines follow.2 in
     by_test (line.offset == t) refl any
     (λ e. let same : line.offset ≡ t = grind (arith, nat_tests) in omega (arith, follow.0, follow.1))
-    (stands_before (a + line.length) end lines follow.2 t)
+    (offset_before (a + line.length) end lines follow.2 t)
   where
     by_test : (b : Bool) → (line.offset == t) ≡ b → (b || list_any (λ l. l.offset == t) lines) ≡ true → ((line.offset == t) ≡ true → t < end) → (list_any (λ l. l.offset == t) lines ≡ true → t < end) → t < end
     by_test true e any here later = here e

@@ -35,9 +35,9 @@ queue-found s id (t ∷ ts) = on (id_in s t == id) (queue-found s id ts)
     on true more = refl
     on false more = more
 
-queue-stands : (s : List ℕ) (id : ℕ) (ts : List ℕ) (t : ℕ) → task_with s id ts ≡ Some t → AllByRecursion (CanWalkTask s) ts → HasQueue s (queue_head t)
-queue-stands s id [] t is all = (let other : None ≡ Some t = is in cc)
-queue-stands s id (u ∷ us) t is all = on (id_in s u == id) is (λ more. queue-stands s id us t more all.1)
+valid-queue : (s : List ℕ) (id : ℕ) (ts : List ℕ) (t : ℕ) → task_with s id ts ≡ Some t → AllByRecursion (CanWalkTask s) ts → HasQueue s (queue_head t)
+valid-queue s id [] t is all = (let other : None ≡ Some t = is in cc)
+valid-queue s id (u ∷ us) t is all = on (id_in s u == id) is (λ more. valid-queue s id us t more all.1)
   where
     on : (b : Bool) → (if b then Some u else task_with s id us) ≡ Some t → (task_with s id us ≡ Some t → HasQueue s (queue_head t)) → HasQueue s (queue_head t)
     on true same later = subst (λ v. HasQueue s (queue_head v)) (ap (λ o. unwrap_or o 0) same) all.0.queue
@@ -60,11 +60,11 @@ module _ (s : List ℕ) (l : Lists) (h : HoldsLists s l) where
   pub leads-task : (id : ℕ) → Leads s (option_map Work (task_with s id (tasks_in s))) (task_queue id l.tasks)
   leads-task id =
       let there = queue-found s id (tasks_in s) in
-      subst (Leads s (option_map Work (task_with s id (tasks_in s)))) (sym there ∙ ap (task_queue id) tasks-back) (stands (task_with s id (tasks_in s)) refl)
+      subst (Leads s (option_map Work (task_with s id (tasks_in s)))) (sym there ∙ ap (task_queue id) tasks-back) (queue-leads (task_with s id (tasks_in s)) refl)
     where
-      stands : (o : Option ℕ) → task_with s id (tasks_in s) ≡ o → Leads s (option_map Work o) (option_map (queue_in s) o)
-      stands None none = tt
-      stands (Some t) some = (queue-stands s id (tasks_in s) t some walks.tasks, refl)
+      queue-leads : (o : Option ℕ) → task_with s id (tasks_in s) ≡ o → Leads s (option_map Work o) (option_map (queue_in s) o)
+      queue-leads None none = tt
+      queue-leads (Some t) some = (valid-queue s id (tasks_in s) t some walks.tasks, refl)
 
   pub tick-back : slice_index s (root_address Tick) ≡ l.tick
   unfolding lists_in

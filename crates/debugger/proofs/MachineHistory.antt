@@ -9,5 +9,5 @@ pub mod SteppedHistories
 pub mod SplitLists
 pub mod ReturnedHistories
 pub mod KernelMoments
-pub mod StandingParts
+pub mod RepresentedParts
 pub mod ReturnedParts

@@ -8,6 +8,6 @@ use Rattle.kernel_lists.specs.PacketQueue.QueueWords.{QueuedPacket}
 use Rattle.debugger.specs.Texts.{packet_lines, queue_text}
 use Rattle.debugger.specs.Views.{Leads}
 
-pub leads-stands : (s : List ℕ) (queue : Queue) (ps : Option (List QueuedPacket)) → Leads s (Some queue) ps → HasQueue s (head_of queue)
-leads-stands s queue None x = absurd x
-leads-stands s queue (Some ps) x = x.0
+pub leads-valid : (s : List ℕ) (queue : Queue) (ps : Option (List QueuedPacket)) → Leads s (Some queue) ps → HasQueue s (head_of queue)
+leads-valid s queue None x = absurd x
+leads-valid s queue (Some ps) x = x.0

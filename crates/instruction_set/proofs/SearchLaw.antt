@@ -51,7 +51,7 @@ under_first (suc bound) j one le =
 module _ (words : List ℕ) (r : Regs) (t count : ℕ) (keys : ℕ → ℕ) (has : HasKeys words t count keys) where
   -- a turn at a pair that is there reads its key
   turn_at : (k i : ℕ) → 1 ≤ i → i ≤ count → search_from (suc k) words r t count i ≡ compared (search_from k words r t count) words r t i (keys i)
-  turn_at k i one le = turn k words r t count i le ∙ ap (λ (o : Result ℕ Fault). o >>= λ key. compared (search_from k words r t count) words r t i key) (has.stands i one le)
+  turn_at k i one le = turn k words r t count i le ∙ ap (λ (o : Result ℕ Fault). o >>= λ key. compared (search_from k words r t count) words r t i key) (has.each i one le)
 
   same_key : (go_on : ℕ → Result Change Fault) (i : ℕ) → r.a ≡ keys i → compared go_on words r t i (keys i) ≡ jump_by words r (add t (4 * i + 2))
   same_key go_on i e = grind (arith, nat_tests)

@@ -9,7 +9,7 @@ pub record HasKeys (words : List ℕ) (t count : ℕ) (keys : ℕ → ℕ) : Typ
   -- the table has so many pairs
   pub counted : halfword words t ≡ Ok count
   -- each pair has its key
-  pub stands : (i : ℕ) → 1 ≤ i → i ≤ count → halfword words (add t (4 * i)) ≡ Ok (keys i)
+  pub each : (i : ℕ) → 1 ≤ i → i ≤ count → halfword words (add t (4 * i)) ≡ Ok (keys i)
 
 -- pair j is pair i or is below it: the number j, halved some times, is i
 abbrev pub IsUnder : ℕ → ℕ → Type 0

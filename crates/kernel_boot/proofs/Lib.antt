@@ -8,6 +8,6 @@ pub mod ResidentWords
 pub mod StoreSizes
 pub mod LawfulLines
 pub mod NewFiles
-pub mod StandingKernels
+pub mod StoresAfterCalls
 pub mod StartedTasks
 pub mod WrittenFiles

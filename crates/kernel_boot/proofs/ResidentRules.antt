@@ -10,9 +10,9 @@ use Rattle.kernel_model.specs.KernelRecord.Ranges.{IsVersion, is_period, is_stor
 use Rattle.kernel_model.specs.KernelRecord.BlockUse.{coroutine_addresses}
 use Rattle.kernel_model.specs.KernelRecord.Lists.{Lists}
 use Rattle.kernel_model.specs.KernelRecord.Task.{Task, is_guest_id}
-use Rattle.kernel_model.specs.KernelRecord.ValidBlocks.{BlocksTile, NumbersStand}
-use Rattle.kernel_model.specs.KernelRecord.ValidQueues.{Keyboard, MayStand, QueuesStand, Work}
-use Rattle.kernel_model.specs.KernelRecord.ValidTasks.{CoroutinesStand, IsCoroutine, IsTask, TasksStand, resident_place}
+use Rattle.kernel_model.specs.KernelRecord.ValidBlocks.{AreValidNumbers, BlocksTile}
+use Rattle.kernel_model.specs.KernelRecord.ValidQueues.{AreValidQueues, IsValidPacket, Keyboard, Work}
+use Rattle.kernel_model.specs.KernelRecord.ValidTasks.{AreValidCoroutines, AreValidTasks, IsCoroutine, IsTask, resident_place}
 use Rattle.kernel_lists.specs.GetvecChain.Block.{used_block}
 use Rattle.kernel_boot.specs.ResidentKernel.{console, fault_reporter, files, packet_from, resident_lists, shell, waiting_resident}
 
@@ -53,7 +53,7 @@ reporter-task l = waiting-task l 2 287 3000 [] refl refl (omega arith) (omega ar
 shell-task : (l : Lists) → IsTask l shell
 shell-task l = waiting-task l 1 201 1000 (packet_from 1 279 ∷ []) refl refl (omega arith) (omega arith)
 
-no-coroutines : (l : Lists) (t : Task) → t.coroutines.list ≡ [] → t.coroutines.active ≡ [] → CoroutinesStand l t
+no-coroutines : (l : Lists) (t : Task) → t.coroutines.list ≡ [] → t.coroutines.active ≡ [] → AreValidCoroutines l t
 no-coroutines l t none idle = record {
   each = subst (AllByRecursion (IsCoroutine l)) (sym none) tt;
   members = subst (AllByRecursion (λ c. has c (coroutine_addresses t) ≡ true)) (sym idle) tt;
@@ -68,14 +68,14 @@ module _ (n v p : ℕ) (large : 1024 ≤ n) (even : n % 2 ≡ 0) where
   residents-tile true = (refl, omega arith, refl, (refl, omega (arith, large), omega (arith, even, large), omega (arith, large)))
   residents-tile false = (refl, omega arith, refl, (refl, omega (arith, large), omega (arith, even, large), omega (arith, large)))
 
-  pub residents-numbers : (r : Bool) → IsVersion v → IsTrue (is_store_size v n) → IsTrue (is_period p) → NumbersStand (lists r)
+  pub residents-numbers : (r : Bool) → IsVersion v → IsTrue (is_store_size v n) → IsTrue (is_period p) → AreValidNumbers (lists r)
   residents-numbers true version size period = record { version = version; size = size; period = period; residents = λ e. record { start = 200; here = refl; block = refl } }
   residents-numbers false version size period = record { version = version; size = size; period = period; residents = λ e. record { start = 200; here = refl; block = refl } }
 
   last : IsApart (1 ∷ [])
   last = IsApart-cons 1 [] refl (λ a. omega arith)
 
-  pub residents-tasks : (r : Bool) → TasksStand (lists r)
+  pub residents-tasks : (r : Bool) → AreValidTasks (lists r)
   residents-tasks true = record {
     each = (console-task (lists true), (files-task (lists true), (reporter-task (lists true), (shell-task (lists true), tt))));
     distinct = IsApart-cons 3 (4 ∷ 2 ∷ 1 ∷ []) refl (IsApart-cons 4 (2 ∷ 1 ∷ []) refl (IsApart-cons 2 (1 ∷ []) refl last));
@@ -95,43 +95,43 @@ module _ (n v p : ℕ) (large : 1024 ≤ n) (even : n % 2 ≡ 0) where
     reporter = λ e. refl;
   }
 
-  pub residents-coroutines : (r : Bool) → AllByRecursion (CoroutinesStand (lists r)) (lists r).tasks
+  pub residents-coroutines : (r : Bool) → AllByRecursion (AreValidCoroutines (lists r)) (lists r).tasks
   residents-coroutines true = (no-coroutines (lists true) console refl refl, (no-coroutines (lists true) files refl refl, (no-coroutines (lists true) fault_reporter refl refl, (no-coroutines (lists true) shell refl refl, tt))))
   residents-coroutines false = (no-coroutines (lists false) console refl refl, (no-coroutines (lists false) files refl refl, (no-coroutines (lists false) shell refl refl, tt)))
 
-  key-stands : (r : Bool) → MayStand (lists r) Keyboard (packet_from 3 271)
-  key-stands true = record {
+  key-valid : (r : Bool) → IsValidPacket (lists r) Keyboard (packet_from 3 271)
+  key-valid true = record {
     lodged = record { block = used_block 200 116; holds = refl; used = refl; whole = omega arith };
     key = λ e. record { place = refl; kind = refl; last = refl };
     fault = λ e. cc;
     sender = λ e. cc;
   }
-  key-stands false = record {
+  key-valid false = record {
     lodged = record { block = used_block 200 88; holds = refl; used = refl; whole = omega arith };
     key = λ e. record { place = refl; kind = refl; last = refl };
     fault = λ e. cc;
     sender = λ e. cc;
   }
 
-  shells-stands : (r : Bool) → MayStand (lists r) (Work 1) (packet_from 1 279)
-  shells-stands true = record {
+  shells-valid : (r : Bool) → IsValidPacket (lists r) (Work 1) (packet_from 1 279)
+  shells-valid true = record {
     lodged = record { block = used_block 200 116; holds = refl; used = refl; whole = omega arith };
     key = λ e. cc;
     fault = λ e. cc;
     sender = λ e resident. refl;
   }
-  shells-stands false = record {
+  shells-valid false = record {
     lodged = record { block = used_block 200 88; holds = refl; used = refl; whole = omega arith };
     key = λ e. cc;
     fault = λ e. cc;
     sender = λ e resident. refl;
   }
 
-  pub residents-queues : (r : Bool) → QueuesStand (lists r)
+  pub residents-queues : (r : Bool) → AreValidQueues (lists r)
   residents-queues true = record {
-    tasks = (tt, (tt, (tt, ((shells-stands true, tt), tt))));
+    tasks = (tt, (tt, (tt, ((shells-valid true, tt), tt))));
     clock = tt;
-    keyboard = (key-stands true, tt);
+    keyboard = (key-valid true, tt);
     output = tt;
     pending = tt;
     due = tt;
@@ -141,9 +141,9 @@ module _ (n v p : ℕ) (large : 1024 ≤ n) (even : n % 2 ≡ 0) where
     running = inl refl;
   }
   residents-queues false = record {
-    tasks = (tt, (tt, ((shells-stands false, tt), tt)));
+    tasks = (tt, (tt, ((shells-valid false, tt), tt)));
     clock = tt;
-    keyboard = (key-stands false, tt);
+    keyboard = (key-valid false, tt);
     output = tt;
     pending = tt;
     due = tt;

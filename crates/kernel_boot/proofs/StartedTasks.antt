@@ -25,7 +25,7 @@ use Rattle.kernel_calls.proofs.CallAnswers.Refusals.{high-guest}
 use Rattle.kernel_calls.specs.ModuleCalls.LoadModule.{load_tests}
 use Rattle.kernel_calls.specs.TaskCalls.CreateTask.{MayCreate, create_task, creation_tests, free_id, new_task, number_of, with_created}
 use Rattle.kernel_boot.specs.BootTasks.{AreBootLines, IsBootForm, MayStart, begin_it, create_it, load_bytes, load_named, load_names, load_text, on_answer, start_form}
-use Rattle.kernel_model.specs.KernelRecord.Standing.{Standing, left_with, standing}
+use Rattle.kernel_model.specs.KernelRecord.StoreWithLists.{StoreWithLists, left_with, store_with_lists}
 
 -- ---- loading
 
@@ -49,12 +49,12 @@ pub named-keeps : (d : Disc) (name : List ℕ) (l : Lists) → Keeps l (load_nam
 named-keeps d name l = bytes-keep l (option_map (λ f. f.bytes) (file_named d name))
 
 -- what loading all names leaves
-pub record AllLoaded (k : Standing) (number : ℕ) (x : List ℕ × Standing) : Type 0 where
+pub record AllLoaded (k : StoreWithLists) (number : ℕ) (x : List ℕ × StoreWithLists) : Type 0 where
   pub version : x.1.lists.version ≡ k.lists.version
   pub tasks : x.1.lists.tasks ≡ k.lists.tasks
   pub count : length x.0 ≡ number
 
-pub names-loaded : (d : Disc) (names : List (List ℕ)) (modules : List ℕ) (k : Standing) (x : List ℕ × Standing) → load_names d names modules k ≡ Ok x → AllLoaded k (length modules + length names) x
+pub names-loaded : (d : Disc) (names : List (List ℕ)) (modules : List ℕ) (k : StoreWithLists) (x : List ℕ × StoreWithLists) → load_names d names modules k ≡ Ok x → AllLoaded k (length modules + length names) x
 names-loaded d [] modules k x is =
     let same : (modules, k) ≡ x = cc in
     subst (AllLoaded k (length modules + 0)) same (record { version = refl; tasks = refl; count = omega arith })
@@ -118,9 +118,9 @@ number-is l id n low is = is ∙ ap (λ b. unwrap_or (cond b (free_id l) (Some i
 
 -- of the modules that were loaded for it a task may be made
 pub may-create : (d : Disc) (id : ℕ) (names : List (List ℕ)) (s u : List ℕ) (l m : Lists) (modules lent : List ℕ) → MayStart l.version id names → has_task id l.tasks ≡ false → lent ≡ modules
-    → load_names d names [] (standing s l) ≡ Ok (modules, standing u m) → MayCreate m id lent 0
+    → load_names d names [] (store_with_lists s l) ≡ Ok (modules, store_with_lists u m) → MayCreate m id lent 0
 may-create d id names s u l m modules lent may away same loaded =
-    let all = names-loaded d names [] (standing s l) (modules, standing u m) loaded in
+    let all = names-loaded d names [] (store_with_lists s l) (modules, store_with_lists u m) loaded in
     subst (λ ms. MayCreate m id ms 0) (sym same)
     (record {
       number = inr (may.low, subst (λ v. id ≤ highest_id_of v) (sym all.version) may.high, ap (has_task id) all.tasks ∙ away);
@@ -131,16 +131,16 @@ may-create d id names s u l m modules lent may away same loaded =
 
 -- ---- the version
 
-pub form-keeps : (d : Disc) (form : LineForm) (k j : Standing) → start_form d form k ≡ Ok j → j.lists.version ≡ k.lists.version
-form-keeps d (File name bytes) k j is = (let same : k ≡ j = cc in ap (λ (x : Standing). x.lists.version) (sym same))
-form-keeps d (Code bytes) k j is = (let same : k ≡ j = cc in ap (λ (x : Standing). x.lists.version) (sym same))
+pub form-keeps : (d : Disc) (form : LineForm) (k j : StoreWithLists) → start_form d form k ≡ Ok j → j.lists.version ≡ k.lists.version
+form-keeps d (File name bytes) k j is = (let same : k ≡ j = cc in ap (λ (x : StoreWithLists). x.lists.version) (sym same))
+form-keeps d (Code bytes) k j is = (let same : k ≡ j = cc in ap (λ (x : StoreWithLists). x.lists.version) (sym same))
 form-keeps d (Task id pri stack names) k j is = on (has_task id k.lists.tasks) is
   where
-    version_of : Result Standing ℕ → ℕ
+    version_of : Result StoreWithLists ℕ → ℕ
     version_of (Ok y) = y.lists.version
     version_of (Err code) = 0
 
-    begun : (x : List ℕ × Standing) (r : Result ℕ ℕ) → (create_task x.1.words x.1.lists id x.0 stack pri 0).answer ≡ r
+    begun : (x : List ℕ × StoreWithLists) (r : Result ℕ ℕ) → (create_task x.1.words x.1.lists id x.0 stack pri 0).answer ≡ r
         → on_answer r (left_with x.1.words (create_task x.1.words x.1.lists id x.0 stack pri 0).lists (create_task x.1.words x.1.lists id x.0 stack pri 0).plain) begin_it ≡ Ok j
         → j.lists.version ≡ x.1.lists.version
     begun x (Ok n) e f =
@@ -148,7 +148,7 @@ form-keeps d (Task id pri stack names) k j is = on (has_task id k.lists.tasks) i
         ap version_of (sym f) ∙ h.version
     begun x (Err code) e f = cc
 
-    create : (r : Result (List ℕ × Standing) ℕ) → load_names d names [] k ≡ r → create_it id pri stack r ≡ Ok j → j.lists.version ≡ k.lists.version
+    create : (r : Result (List ℕ × StoreWithLists) ℕ) → load_names d names [] k ≡ r → create_it id pri stack r ≡ Ok j → j.lists.version ≡ k.lists.version
     create (Ok x) e f =
         begun x (create_task x.1.words x.1.lists id x.0 stack pri 0).answer refl f ∙ (names-loaded d names [] k x e).version
     create (Err code) e f = cc

@@ -3,7 +3,7 @@ ghost use Rattle.std.specs.Prelude.{◌≡◌, ◌≤◌, length, []};
 ghost use Rattle.kernel_model.specs.KernelRecord.Lists.{Lists};
 ghost use Rattle.kernel_calls.specs.CallAnswers.Made.{IsMade};
 ghost use Rattle.kernel_boot.specs.BootTasks.{AreBootLines, AreLoaded, IsBootForm, IsLeft, MayStart, load_named, load_names, start_form, start_task, start_tasks};
-ghost use Rattle.kernel_model.specs.KernelRecord.Standing.{standing};
+ghost use Rattle.kernel_model.specs.KernelRecord.StoreWithLists.{store_with_lists};
 ghost use Rattle.kernel_model.specs.KernelRecord.ChangedStore.{HasKeeper};
 
 use crate::{BootRefusal, begin_task};
@@ -39,7 +39,7 @@ pub fn start_tasks<Q: KindKeeper>(
         → HasKeeper store.old (Q.tells kinds.old) (Q.room kinds.old) l
         → AreBootLines l.version lines.now
         → IsLeft store.new (Q.tells kinds.new) (Q.room kinds.new) result
-        (start_tasks disc.now lines.now (standing store.old l)) }
+        (start_tasks disc.now lines.now (store_with_lists store.old l)) }
     ensures room { Q.room kinds.new ≡ Q.room kinds.old }
 {
     for line in lines {
@@ -67,7 +67,7 @@ fn start_form<Q: KindKeeper>(
         → HasKeeper store.old (Q.tells kinds.old) (Q.room kinds.old) l
         → IsBootForm l.version form.now
         → IsLeft store.new (Q.tells kinds.new) (Q.room kinds.new) result
-        (start_form disc.now form.now (standing store.old l)) }
+        (start_form disc.now form.now (store_with_lists store.old l)) }
     ensures room { Q.room kinds.new ≡ Q.room kinds.old }
 {
     match form {
@@ -98,7 +98,7 @@ fn start_task<Q: KindKeeper>(
         → HasKeeper store.old (Q.tells kinds.old) (Q.room kinds.old) l
         → MayStart l.version id names.now
         → IsLeft store.new (Q.tells kinds.new) (Q.room kinds.new) result
-        (start_task disc.now id pri stack names.now (standing store.old l)) }
+        (start_task disc.now id pri stack names.now (store_with_lists store.old l)) }
     ensures room { Q.room kinds.new ≡ Q.room kinds.old }
 {
     if guest(store, id).is_ok() {
@@ -122,7 +122,7 @@ fn load_names<Q: KindKeeper>(
     ensures loaded { (l : Lists)
         → HasKeeper store.old (Q.tells kinds.old) (Q.room kinds.old) l
         → AreLoaded store.new (Q.tells kinds.new) (Q.room kinds.new) result
-        (load_names disc.now names.now [] (standing store.old l)) }
+        (load_names disc.now names.now [] (store_with_lists store.old l)) }
     ensures room { Q.room kinds.new ≡ Q.room kinds.old }
 {
     let mut modules = ArrayVec::new();

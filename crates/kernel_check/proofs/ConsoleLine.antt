@@ -4,7 +4,7 @@ use Rattle.std.specs.Prelude.{is_some}
 use Rattle.std.proofs.lemmas.Bool.{false≢true}
 use Rattle.kernel_lists.specs.LinkedList.Chain.{links_from}
 use Rattle.kernel_lists.specs.PacketQueue.Queue.{link_of}
-use Rattle.kernel_model.specs.KernelRecord.Between.{ConsoleStands}
+use Rattle.kernel_model.specs.KernelRecord.Between.{IsValidConsole}
 use Rattle.kernel_model.specs.KernelRecord.Kernel.{no_line}
 use Rattle.kernel_model.specs.KernelRecord.Lists.{Lists}
 use Rattle.kernel_model.specs.KernelRecord.Recovered.{lists_in, packet_in}
@@ -51,8 +51,8 @@ queued-tells s w f read other =
 -- ---- all rules
 
 module _ (l : Lists) (line : List ℕ) (finished : Bool) (short : length line ≤ 120) where
-  pub absent-stands : l.residents ≡ false → (b : Bool) → ((b ≡ true) ↔ (console_of line finished ≡ no_line)) → (b ≡ true) ↔ ConsoleStands l (console_of line finished)
-  absent-stands none b answer = (
+  pub absent-valid : l.residents ≡ false → (b : Bool) → ((b ≡ true) ↔ (console_of line finished ≡ no_line)) → (b ≡ true) ↔ IsValidConsole l (console_of line finished)
+  absent-valid none b answer = (
     λ t. record {
       finished = λ e. absurd (false≢true (sym none ∙ e));
       delivered = λ e. absurd (false≢true (sym (ap (λ c. c.finished) (answer.0 t)) ∙ e));
@@ -62,5 +62,5 @@ module _ (l : Lists) (line : List ℕ) (finished : Bool) (short : length line �
     λ h. answer.1 (h.absent none),
   )
 
-  pub line-stands : l.residents ≡ true → finished ≡ is_some l.key → (finished ≡ true → l.pending ≡ []) → ConsoleStands l (console_of line finished)
-  line-stands there told delivered = record { finished = λ e. told; delivered = delivered; line = short; absent = λ e. absurd (false≢true (sym e ∙ there)) }
+  pub line-valid : l.residents ≡ true → finished ≡ is_some l.key → (finished ≡ true → l.pending ≡ []) → IsValidConsole l (console_of line finished)
+  line-valid there told delivered = record { finished = λ e. told; delivered = delivered; line = short; absent = λ e. absurd (false≢true (sym e ∙ there)) }

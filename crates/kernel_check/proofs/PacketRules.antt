@@ -4,7 +4,7 @@ use Rattle.std.proofs.lemmas.Bool.{and_parts, eqb-true, false≢true}
 use Rattle.kernel_lists.specs.PacketQueue.QueueWords.{QueuedPacket}
 use Rattle.kernel_model.specs.KernelRecord.Lists.{Lists, has_task}
 use Rattle.kernel_model.specs.KernelRecord.ValidBlocks.{AreData}
-use Rattle.kernel_model.specs.KernelRecord.ValidQueues.{HasSender, IsFaultPacket, IsKeyPacket, MayStand, Place, is_fault_packet, is_key_packet}
+use Rattle.kernel_model.specs.KernelRecord.ValidQueues.{HasSender, IsFaultPacket, IsKeyPacket, IsValidPacket, Place, is_fault_packet, is_key_packet}
 
 -- the key packet is not the fault packet
 other-packet : (l : Lists) (p : QueuedPacket) → is_key_packet l p ≡ true → is_fault_packet l p ≡ true → ⊥
@@ -14,7 +14,7 @@ other-packet l p key fault =
     absurd (let e : 271 ≡ 310 = sym at-key ∙ at-fault in cc)
 
 module _ (l : Lists) (at : Place) (p : QueuedPacket) (lodged : AreData l.blocks p.address 5) where
-  pub key-may : (k : Bool) → k ≡ is_key_packet l p → k ≡ true → (b : Bool) → ((b ≡ true) ↔ IsKeyPacket at p) → (b ≡ true) ↔ MayStand l at p
+  pub key-may : (k : Bool) → k ≡ is_key_packet l p → k ≡ true → (b : Bool) → ((b ≡ true) ↔ IsKeyPacket at p) → (b ≡ true) ↔ IsValidPacket l at p
   key-may k read is b answer = (
     λ t. record {
       lodged = lodged;
@@ -26,7 +26,7 @@ module _ (l : Lists) (at : Place) (p : QueuedPacket) (lodged : AreData l.blocks 
   )
 
   pub other-may : (k : Bool) → k ≡ is_key_packet l p → k ≡ false → (is_fault_packet l p ≡ true → IsFaultPacket at p) → (b : Bool) → (w : ℕ) → w ≡ p.sender → ((b ≡ true) ↔ HasSender l at w)
-      → (b ≡ true) ↔ MayStand l at p
+      → (b ≡ true) ↔ IsValidPacket l at p
   other-may k read not_so fault b w same answer = (
     λ t. record {
       lodged = lodged;

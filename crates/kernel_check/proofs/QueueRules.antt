@@ -11,8 +11,8 @@ use Rattle.kernel_model.specs.KernelRecord.Lists.{address_of_task, has_task}
 use Rattle.kernel_model.specs.KernelRecord.Recovered.{lists_in, packet_in, packets_at, task_in}
 use Rattle.kernel_model.specs.KernelRecord.Task.{queue_head}
 use Rattle.kernel_model.specs.KernelRecord.ValidBlocks.{AreData}
-use Rattle.kernel_model.specs.KernelRecord.ValidTasks.{TasksStand}
-use Rattle.kernel_model.specs.KernelRecord.ValidQueues.{MayStand, NeverFall, Place}
+use Rattle.kernel_model.specs.KernelRecord.ValidTasks.{AreValidTasks}
+use Rattle.kernel_model.specs.KernelRecord.ValidQueues.{IsValidPacket, NeverFall, Place}
 use Rattle.kernel_model.specs.KernelRecord.ValidQueues.Place.{Work}
 use Rattle.kernel_check.specs.ListPasses.ClaimedStore.{IsClaimed}
 use Rattle.kernel_check.proofs.ListPasses.ClaimedWalks.{heads, of-tasks}
@@ -26,23 +26,23 @@ use Rattle.kernel_check.proofs.TaskNumbers.{address-in}
 -- ---- one queue
 
 abbrev pub May : List ℕ → Place → ℕ → Type 0
-May s at p = MayStand (lists_in s) at (packet_in s p)
+May s at p = IsValidPacket (lists_in s) at (packet_in s p)
 
 abbrev pub Lodged : List ℕ → ℕ → Type 0
 Lodged s p = AreData (lists_in s).blocks p 5
 
 -- the packets of the queue at an address that was computed are those of the head
-pub at-head : (s : List ℕ) (at : Place) (b : Bool) (h head : ℕ) → h ≡ head → ((b ≡ true) ↔ AllByRecursion (MayStand (lists_in s) at) (packets_at s h)) → (b ≡ true) ↔ AllByRecursion (MayStand (lists_in s) at) (packets_at s head)
-at-head s at b h head is answer = subst (λ z. (b ≡ true) ↔ AllByRecursion (MayStand (lists_in s) at) (packets_at s z)) is answer
+pub at-head : (s : List ℕ) (at : Place) (b : Bool) (h head : ℕ) → h ≡ head → ((b ≡ true) ↔ AllByRecursion (IsValidPacket (lists_in s) at) (packets_at s h)) → (b ≡ true) ↔ AllByRecursion (IsValidPacket (lists_in s) at) (packets_at s head)
+at-head s at b h head is answer = subst (λ z. (b ≡ true) ↔ AllByRecursion (IsValidPacket (lists_in s) at) (packets_at s z)) is answer
 
 -- ---- the work queues
 
-abbrev pub WorkStands : List ℕ → ℕ → Type 0
-WorkStands s t = AllByRecursion (MayStand (lists_in s) (Work (task_in s t).id)) (task_in s t).queue
+abbrev pub AreValidWork : List ℕ → ℕ → Type 0
+AreValidWork s t = AllByRecursion (IsValidPacket (lists_in s) (Work (task_in s t).id)) (task_in s t).queue
 
-pub work-at : (s : List ℕ) (t id h : ℕ) (b : Bool) → id ≡ id_in s t → h ≡ queue_head t → ((b ≡ true) ↔ AllByRecursion (MayStand (lists_in s) (Work id)) (packets_at s h)) → (b ≡ true) ↔ WorkStands s t
+pub work-at : (s : List ℕ) (t id h : ℕ) (b : Bool) → id ≡ id_in s t → h ≡ queue_head t → ((b ≡ true) ↔ AllByRecursion (IsValidPacket (lists_in s) (Work id)) (packets_at s h)) → (b ≡ true) ↔ AreValidWork s t
 work-at s t id h b number head answer =
-    subst (λ i. (b ≡ true) ↔ AllByRecursion (MayStand (lists_in s) (Work i)) (packets_at s (queue_head t))) number (at-head s (Work id) b h (queue_head t) head answer)
+    subst (λ i. (b ≡ true) ↔ AllByRecursion (IsValidPacket (lists_in s) (Work i)) (packets_at s (queue_head t))) number (at-head s (Work id) b h (queue_head t) head answer)
 
 -- what is known of a task whose words were claimed
 abbrev pub IsKnown : List ℕ → ℕ → Type 0
@@ -80,9 +80,9 @@ pub pending-none : (s : List ℕ) → (lists_in s).residents ≡ false → (list
 pending-none s none = pending-read s ∙ ap (λ b. cond b (packets_at s 270) []) none
 
 -- a queue that was read off
-pub read-at : (s : List ℕ) (at : Place) (b : Bool) (h head : ℕ) (ps : List QueuedPacket) → h ≡ head → packets_at s head ≡ ps → ((b ≡ true) ↔ AllByRecursion (MayStand (lists_in s) at) (packets_at s h))
-    → (b ≡ true) ↔ AllByRecursion (MayStand (lists_in s) at) ps
-read-at s at b h head ps is read answer = subst (λ qs. (b ≡ true) ↔ AllByRecursion (MayStand (lists_in s) at) qs) read (at-head s at b h head is answer)
+pub read-at : (s : List ℕ) (at : Place) (b : Bool) (h head : ℕ) (ps : List QueuedPacket) → h ≡ head → packets_at s head ≡ ps → ((b ≡ true) ↔ AllByRecursion (IsValidPacket (lists_in s) at) (packets_at s h))
+    → (b ≡ true) ↔ AllByRecursion (IsValidPacket (lists_in s) at) ps
+read-at s at b h head ps is read answer = subst (λ qs. (b ≡ true) ↔ AllByRecursion (IsValidPacket (lists_in s) at) qs) read (at-head s at b h head is answer)
 
 -- ---- due ticks
 
@@ -181,7 +181,7 @@ module _ (s : List ℕ) where
   pub fault-absent : (Q : Bool) → has_task 2 (lists_in s).tasks ≡ false → (lists_in s).fault_packet_free ≡ (has_task 2 (lists_in s).tasks && not Q)
   fault-absent Q none = said-absent (lists_in s).fault_packet_free (has_task 2 (lists_in s).tasks) Q none (free-is s ∙ ap (λ b. b && ((lists_in s).residents && eqb (get_or s 310 0) no_queue)) none)
 
-  pub fault-free : TasksStand (lists_in s) → (w : ℕ) → w ≡ get_or s 310 0 → w ≡ 4294967295 → has_task 2 (lists_in s).tasks ≡ true → (lists_in s).fault_packet_free ≡ true
+  pub fault-free : AreValidTasks (lists_in s) → (w : ℕ) → w ≡ get_or s 310 0 → w ≡ 4294967295 → has_task 2 (lists_in s).tasks ≡ true → (lists_in s).fault_packet_free ≡ true
   fault-free k w read is there = free-is s ∙ (λ i. there i && (k.reporter there i && eq-eqb (get_or s 310 0) no_queue (sym read ∙ is) i))
 
   pub fault-other : (w : ℕ) → w ≡ get_or s 310 0 → w ≢ 4294967295 → (lists_in s).fault_packet_free ≡ false

@@ -7,10 +7,10 @@ use Rattle.kernel_model.specs.KernelRecord.HoldsLists.{HoldsLists}
 use Rattle.kernel_model.specs.KernelRecord.Recovered.{lists_in, task_in}
 use Rattle.kernel_lists.specs.TaskBlock.Lists.{coroutines_in}
 use Rattle.kernel_lists.specs.TaskBlock.TaskChain.{tasks_in}
-use Rattle.kernel_model.specs.KernelRecord.ValidTasks.{CoroutinesStand}
+use Rattle.kernel_model.specs.KernelRecord.ValidTasks.{AreValidCoroutines}
 use Rattle.kernel_model.proofs.KernelRecord.EachMember.{all-each}
 use Rattle.store_claims.specs.WordClaims.Marks.{is_open}
-use Rattle.store_claims.specs.AdoptionLaw.Passes.{HeadStands, Passes}
+use Rattle.store_claims.specs.AdoptionLaw.Passes.{HoldsTaskWords, Passes}
 use Rattle.store_claims.proofs.AdoptionLaw.AllPasses.{passes}
 use Rattle.store_claims.proofs.AdoptionLaw.ClaimableStore.{valid-claimable}
 use Rattle.kernel_check.specs.ListPasses.ClaimedStore.{IsClaimed}
@@ -41,20 +41,20 @@ is-shut s m is = record {
 -- ---- coroutines
 
 -- the coroutines of tasks that own them stand
-pub owned-stand : (s : List ℕ) → AllByRecursion (OwnsCoroutines s) (tasks_in s) → AllByRecursion (CoroutinesStand (lists_in s)) (lists_in s).tasks
-owned-stand s all = (of-tasks s (CoroutinesStand (lists_in s))).0 (all-each (OwnsCoroutines s) (λ t. CoroutinesStand (lists_in s) (task_in s t)) (λ t h. h.stand) (tasks_in s) all)
+pub owned-valid : (s : List ℕ) → AllByRecursion (OwnsCoroutines s) (tasks_in s) → AllByRecursion (AreValidCoroutines (lists_in s)) (lists_in s).tasks
+owned-valid s all = (of-tasks s (AreValidCoroutines (lists_in s))).0 (all-each (OwnsCoroutines s) (λ t. AreValidCoroutines (lists_in s) (task_in s t)) (λ t h. h.valid) (tasks_in s) all)
 
 -- and where the words of tasks stand, each tells whether it is active
 pub all-owned : (s : List ℕ) → IsClaimed s → Passes s → AllByRecursion (OwnsCoroutines s) (tasks_in s)
-all-owned s c p = each (tasks_in s) (some-tasks s c) ((of-tasks s (CoroutinesStand (lists_in s))).1 p.coroutines) ((of-tasks s (HeadStands s (lists_in s))).1 p.heads)
+all-owned s c p = each (tasks_in s) (some-tasks s c) ((of-tasks s (AreValidCoroutines (lists_in s))).1 p.coroutines) ((of-tasks s (HoldsTaskWords s (lists_in s))).1 p.heads)
   where
-    each : (ts : List ℕ) → AllByRecursion (λ t. 0 < t) ts → AllByRecursion (λ t. CoroutinesStand (lists_in s) (task_in s t)) ts → AllByRecursion (λ t. HeadStands s (lists_in s) (task_in s t)) ts
+    each : (ts : List ℕ) → AllByRecursion (λ t. 0 < t) ts → AllByRecursion (λ t. AreValidCoroutines (lists_in s) (task_in s t)) ts → AllByRecursion (λ t. HoldsTaskWords s (lists_in s) (task_in s t)) ts
         → AllByRecursion (OwnsCoroutines s) ts
-    each [] some stand heads = tt
-    each (t ∷ ts) some stand heads = (
+    each [] some valid-coroutines heads = tt
+    each (t ∷ ts) some valid-coroutines heads = (
       record {
-        stand = stand.0;
+        valid-coroutines = valid-coroutines.0;
         parents = parents-tell s t (λ e. omega (arith, e, some.0)) (coroutines_in s t) (all-each (Frame s t) (HasParent s t) (λ k f. f.1) (coroutines_in s t) (frames-all s t heads.0.coroutines));
       },
-      each ts some.1 stand.1 heads.1,
+      each ts some.1 valid-coroutines.1 heads.1,
     )

@@ -4,7 +4,7 @@ ghost use Rattle.std.specs.List.{AllByRecursion};
 ghost use Rattle.kernel_lists.specs.LinkedList.Walk.{CanWalk};
 ghost use Rattle.kernel_lists.specs.TaskBlock.RootWords.{first_task};
 ghost use Rattle.kernel_lists.specs.TaskBlock.TaskChain.{task_link};
-ghost use Rattle.kernel_model.specs.KernelRecord.Between.{FirstRuns, RegistersStand, first_ready};
+ghost use Rattle.kernel_model.specs.KernelRecord.Between.{AreValidRegisters, FirstRuns, first_ready};
 ghost use Rattle.kernel_model.specs.KernelRecord.HoldsLists.{HoldsLists};
 ghost use Rattle.kernel_model.specs.KernelRecord.Recovered.{lists_in, task_in};
 ghost use Rattle.kernel_model.specs.KernelRecord.Running.{RunsAs, RunsIf};
@@ -66,8 +66,8 @@ fn state_tells(store: &Store, t: u32, running: u32) -> bool
 }
 
 /// Whether C is a byte, and all registers are 0 where no guest runs.
-pub fn registers_stand(store: &Store, regs: &Regs) -> bool
-    ensures { IsTrue result ↔ RegistersStand (lists_in store.now) regs.now }
+pub fn are_valid_registers(store: &Store, regs: &Regs) -> bool
+    ensures { IsTrue result ↔ AreValidRegisters (lists_in store.now) regs.now }
 {
     if regs.c >= 256 {
         return false;
@@ -87,7 +87,7 @@ fn are_zero(regs: &Regs) -> bool
 }
 
 /// Whether the ticks of the store are the whole periods in so many steps.
-pub fn ticks_stand(store: &Store, steps: u64) -> bool
+pub fn are_valid_ticks(store: &Store, steps: u64) -> bool
     requires { HoldsLists store.now (lists_in store.now) }
     ensures { IsTrue result ↔ ((lists_in store.now).tick ≡ steps / (lists_in store.now).period) }
 {

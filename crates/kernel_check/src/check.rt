@@ -5,10 +5,11 @@ ghost use Rattle.kernel_model.specs.KernelRecord.Recovered.{lists_in};
 ghost use Rattle.kernel_check.specs.ListPasses.ClaimedStore.{IsClaimed};
 
 use crate::list_passes::{
-    coroutines_stand, heads_stand, modules_stand, open_modules, open_starts, resident_block_stands,
-    resident_words_stand, root_stands, running_stands, table_stands, tasks_stand,
+    are_valid_coroutines, are_valid_modules, are_valid_tasks, has_resident_block,
+    holds_resident_words, holds_table, holds_words_of_tasks, is_valid_root, is_valid_running,
+    open_modules, open_starts,
 };
-use crate::queue_pass::queues_stand;
+use crate::queue_pass::are_valid_queues;
 use byte_streams::WantMemory;
 use std::alloc::Global;
 use store_claims::{Claims, are_tiled, claim_lists, open_blocks};
@@ -20,7 +21,7 @@ use word_store::Store;
 pub fn holds_lists(alloc: Global, store: &Store) -> Result<bool, WantMemory>
     ensures { IfOk result (λ b. IsTrue b ↔ HoldsLists store.now (lists_in store.now)) }
 {
-    if !root_stands(store) {
+    if !is_valid_root(store) {
         return Ok(false);
     }
     if !are_tiled(store) {
@@ -44,29 +45,29 @@ fn holds_claimed(alloc: Global, store: &Store) -> Result<bool, WantMemory>
     let mut modules = Claims::new(alloc, store.size())?;
     open_modules(store, &mut modules);
     let mut own = Claims::new(alloc, store.size())?;
-    if !modules_stand(store, &starts) {
+    if !are_valid_modules(store, &starts) {
         return Ok(false);
     }
-    if !tasks_stand(store, &starts, &modules) {
+    if !are_valid_tasks(store, &starts, &modules) {
         return Ok(false);
     }
-    if !table_stands(store) {
+    if !holds_table(store) {
         return Ok(false);
     }
-    if !running_stands(store) {
+    if !is_valid_running(store) {
         return Ok(false);
     }
-    if !coroutines_stand(store, &starts, &mut own) {
+    if !are_valid_coroutines(store, &starts, &mut own) {
         return Ok(false);
     }
-    if !heads_stand(store) {
+    if !holds_words_of_tasks(store) {
         return Ok(false);
     }
-    if !resident_block_stands(store, &starts) {
+    if !has_resident_block(store, &starts) {
         return Ok(false);
     }
-    if !queues_stand(store) {
+    if !are_valid_queues(store) {
         return Ok(false);
     }
-    Ok(resident_words_stand(store))
+    Ok(holds_resident_words(store))
 }

@@ -1,6 +1,6 @@
 // Whether the console's line is as it must be, between steps.
 ghost use Rattle.std.specs.Prelude.{◌≡◌, ◌↔◌, [], IsTrue, is_some, true};
-ghost use Rattle.kernel_model.specs.KernelRecord.Between.{ConsoleStands};
+ghost use Rattle.kernel_model.specs.KernelRecord.Between.{IsValidConsole};
 ghost use Rattle.kernel_model.specs.KernelRecord.HoldsLists.{HoldsLists};
 ghost use Rattle.kernel_model.specs.KernelRecord.Kernel.{no_line};
 ghost use Rattle.kernel_model.specs.KernelRecord.Recovered.{lists_in};
@@ -12,9 +12,9 @@ use kernel_model::numbers::{KEY_PACKET, MOST_LINE, PENDING_HEAD};
 use word_store::{Store, word};
 
 /// Whether the line, which is finished or not, may be the console's. It looks at two words.
-pub fn console_stands(store: &Store, line: &[u8], finished: bool) -> bool
+pub fn is_valid_console(store: &Store, line: &[u8], finished: bool) -> bool
     requires { HoldsLists store.now (lists_in store.now) }
-    ensures { IsTrue result ↔ ConsoleStands (lists_in store.now) (console_of line.now finished) }
+    ensures { IsTrue result ↔ IsValidConsole (lists_in store.now) (console_of line.now finished) }
 {
     if line.len() > MOST_LINE {
         return false;

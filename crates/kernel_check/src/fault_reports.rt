@@ -5,7 +5,7 @@ ghost use Rattle.kernel_lists.specs.LinkedList.Walk.{CanWalk};
 ghost use Rattle.kernel_lists.specs.PacketQueue.Queue.{HasQueue};
 ghost use Rattle.kernel_lists.specs.TaskBlock.RootWords.{first_task};
 ghost use Rattle.kernel_lists.specs.TaskBlock.TaskChain.{task_link};
-ghost use Rattle.kernel_model.specs.KernelRecord.Between.{FaultsStand, Tells, has_unreported, is_unreported};
+ghost use Rattle.kernel_model.specs.KernelRecord.Between.{AreValidFaults, Tells, has_unreported, is_unreported};
 ghost use Rattle.kernel_model.specs.KernelRecord.Changes.{work_of};
 ghost use Rattle.kernel_model.specs.KernelRecord.HoldsLists.{HoldsLists};
 ghost use Rattle.kernel_model.specs.KernelRecord.Lists.{has_task};
@@ -19,9 +19,9 @@ use word_store::{Store, word, word_at};
 
 /// Whether the fault packet, where there is one, is on a queue exactly where some fault was not reported yet, and is from a guest
 /// with such a fault. It looks twice at each task, and once at each packet of the task that reports faults.
-pub fn faults_stand(store: &Store) -> bool
+pub fn are_valid_faults(store: &Store) -> bool
     requires { HoldsLists store.now (lists_in store.now) }
-    ensures { IsTrue result ↔ FaultsStand (lists_in store.now) }
+    ensures { IsTrue result ↔ AreValidFaults (lists_in store.now) }
 {
     if !packet_waits(store) {
         return false;

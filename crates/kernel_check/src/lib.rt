@@ -11,8 +11,8 @@ pub mod places;
 pub mod queue_pass;
 mod queued;
 
-pub use between::{first_runs, registers_stand, ticks_stand};
+pub use between::{are_valid_registers, are_valid_ticks, first_runs};
 pub use check::holds_lists;
-pub use console_line::console_stands;
-pub use fault_reports::faults_stand;
+pub use console_line::is_valid_console;
+pub use fault_reports::are_valid_faults;
 pub use list_passes::{has_residents, highest_of};

@@ -11,11 +11,11 @@ pub mod starts;
 pub mod table;
 pub mod task_pass;
 
-pub use coroutine_pass::coroutines_stand;
-pub use head_pass::heads_stand;
-pub use module_pass::modules_stand;
-pub use resident_pass::{has_residents, resident_block_stands, resident_words_stand};
-pub use root_pass::root_stands;
+pub use coroutine_pass::are_valid_coroutines;
+pub use head_pass::holds_words_of_tasks;
+pub use module_pass::are_valid_modules;
+pub use resident_pass::{has_resident_block, has_residents, holds_resident_words};
+pub use root_pass::is_valid_root;
 pub use starts::{open_modules, open_starts};
-pub use table::{highest_of, running_of, running_stands, table_stands};
-pub use task_pass::tasks_stand;
+pub use table::{highest_of, holds_table, is_valid_running, running_of};
+pub use task_pass::are_valid_tasks;

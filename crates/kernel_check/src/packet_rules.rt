@@ -3,7 +3,7 @@ ghost use Rattle.std.specs.Prelude.{◌≡◌, ◌↔◌, IsTrue, true};
 ghost use Rattle.kernel_model.specs.KernelRecord.Lists.{has_task};
 ghost use Rattle.kernel_model.specs.KernelRecord.Recovered.{lists_in, packet_in};
 ghost use Rattle.kernel_model.specs.KernelRecord.ValidBlocks.{AreData};
-ghost use Rattle.kernel_model.specs.KernelRecord.ValidQueues.{HasSender, IsFaultPacket, IsKeyPacket, IsKeyPlace, MayStand, Place, is_fault_packet, is_key_packet};
+ghost use Rattle.kernel_model.specs.KernelRecord.ValidQueues.{HasSender, IsFaultPacket, IsKeyPacket, IsKeyPlace, IsValidPacket, Place, is_fault_packet, is_key_packet};
 ghost use Rattle.kernel_model.specs.KernelRecord.ValidQueues.Place.{Work};
 ghost use Rattle.kernel_check.specs.KnownTasks.{AreTasksKnown};
 ghost use Rattle.kernel_check.specs.Places.{place_of};
@@ -17,18 +17,18 @@ use kernel_model::numbers::{
 use word_store::{Store, word, word_at};
 
 /// Whether the packet at p may stand at the place. It looks at its words and at one entry of the task table.
-pub(crate) fn packet_stands(store: &Store, at: QueuePlace, p: u32) -> bool
+pub(crate) fn is_valid_packet(store: &Store, at: QueuePlace, p: u32) -> bool
     requires known { AreTasksKnown store.now }
     requires lodged { AreData (lists_in store.now).blocks p 5 }
-    ensures { IsTrue result ↔ MayStand (lists_in store.now) (place_of at) (packet_in store.now p) }
+    ensures { IsTrue result ↔ IsValidPacket (lists_in store.now) (place_of at) (packet_in store.now p) }
 {
     if is_key_packet(store, p) {
-        return key_packet_stands(store, at, p);
+        return is_valid_key_packet(store, at, p);
     }
     if !fault_rule_holds(store, at, p) {
         return false;
     }
-    sender_stands(store, at, word_at(store, p, SENDER))
+    has_sender(store, at, word_at(store, p, SENDER))
 }
 
 // Whether it is the key packet.
@@ -39,7 +39,7 @@ fn is_key_packet(store: &Store, p: u32) -> bool
 }
 
 // Whether the key packet may stand there.
-fn key_packet_stands(store: &Store, at: QueuePlace, p: u32) -> bool
+fn is_valid_key_packet(store: &Store, at: QueuePlace, p: u32) -> bool
     ensures { IsTrue result ↔ IsKeyPacket (place_of at) (packet_in store.now p) }
 {
     if word_at(store, p, KIND) != 0 {
@@ -73,7 +73,7 @@ fn fault_rule_holds(store: &Store, at: QueuePlace, p: u32) -> bool
     if !is_fault_packet(store, p) {
         return true;
     }
-    fault_packet_stands(store, at, p)
+    is_valid_fault_packet(store, at, p)
 }
 
 // Whether it is the fault packet.
@@ -85,7 +85,7 @@ fn is_fault_packet(store: &Store, p: u32) -> bool
 }
 
 // Whether the fault packet may stand there.
-fn fault_packet_stands(store: &Store, at: QueuePlace, p: u32) -> bool
+fn is_valid_fault_packet(store: &Store, at: QueuePlace, p: u32) -> bool
     ensures { IsTrue result ↔ IsFaultPacket (place_of at) (packet_in store.now p) }
 {
     if word_at(store, p, KIND) != FAULT_KIND {
@@ -114,7 +114,7 @@ fn is_fault_place(at: QueuePlace) -> bool
 }
 
 // Whether a packet that stands there may be from the sender.
-fn sender_stands(store: &Store, at: QueuePlace, sender: u32) -> bool
+fn has_sender(store: &Store, at: QueuePlace, sender: u32) -> bool
     requires { AreTasksKnown store.now }
     ensures { IsTrue result ↔ HasSender (lists_in store.now) (place_of at) sender }
 {

@@ -8,14 +8,14 @@ ghost use Rattle.kernel_model.specs.KernelRecord.Lists.{address_of_task, has_tas
 ghost use Rattle.kernel_model.specs.KernelRecord.Recovered.{lists_in, packet_in, packets_at, task_in};
 ghost use Rattle.kernel_model.specs.KernelRecord.Residents.{fault_packet, key_packet};
 ghost use Rattle.kernel_model.specs.KernelRecord.Task.{queue_head};
-ghost use Rattle.kernel_model.specs.KernelRecord.ValidQueues.{MayStand, NeverFall, Place, QueuesStand};
+ghost use Rattle.kernel_model.specs.KernelRecord.ValidQueues.{AreValidQueues, IsValidPacket, NeverFall, Place};
 ghost use Rattle.kernel_model.specs.KernelRecord.ValidQueues.Place.{Clock, Keyboard, Output, Pending, Work};
 ghost use Rattle.kernel_check.specs.KnownTasks.{AreTasksKnown};
 ghost use Rattle.kernel_check.specs.ClaimedQueue.{IsClaimedQueue};
 ghost use Rattle.kernel_check.specs.Places.{place_of};
 
 use crate::list_passes::has_residents;
-use crate::packet_rules::{is_task, packet_stands};
+use crate::packet_rules::{is_task, is_valid_packet};
 use crate::places::QueuePlace;
 use crate::queued::is_queued;
 use kernel_lists::{NO_QUEUE, RootField, TcbField, field, packets, tasks};
@@ -24,19 +24,19 @@ use word_store::{Store, word, word_at};
 
 /// Whether each queued packet may stand where it does, due ticks never fall along the clock's queue, and the packets of residents
 /// are free exactly where they are on no queue. It looks three times at each packet.
-pub fn queues_stand(store: &Store) -> bool
+pub fn are_valid_queues(store: &Store) -> bool
     requires known { AreTasksKnown store.now }
     requires running { slice_index store.now (root_address Running)
         ≡ address_of_task (lists_in store.now) (lists_in store.now).running }
-    ensures { IsTrue result ↔ QueuesStand (lists_in store.now) }
+    ensures { IsTrue result ↔ AreValidQueues (lists_in store.now) }
 {
-    if !work_stands(store) {
+    if !are_valid_work_queues(store) {
         return false;
     }
-    if !devices_stand(store) {
+    if !are_valid_device_queues(store) {
         return false;
     }
-    if !pending_stands(store) {
+    if !is_valid_pending(store) {
         return false;
     }
     if !ticks_rise(store, RootField::ClockQueue.address()) {
@@ -49,14 +49,14 @@ pub fn queues_stand(store: &Store) -> bool
 }
 
 // The packets of all tasks.
-fn work_stands(store: &Store) -> bool
+fn are_valid_work_queues(store: &Store) -> bool
     requires { AreTasksKnown store.now }
     ensures { IsTrue result ↔ AllByRecursion
-        (λ t. AllByRecursion (MayStand (lists_in store.now) (Work t.id)) t.queue)
+        (λ t. AllByRecursion (IsValidPacket (lists_in store.now) (Work t.id)) t.queue)
         (lists_in store.now).tasks }
 {
     for t in tasks(store) {
-        if !task_queue_stands(store, t) {
+        if !is_valid_task_queue(store, t) {
             return false;
         }
     }
@@ -64,32 +64,32 @@ fn work_stands(store: &Store) -> bool
 }
 
 // Those of the task at t.
-fn task_queue_stands(store: &Store, t: u32) -> bool
+fn is_valid_task_queue(store: &Store, t: u32) -> bool
     requires known { AreTasksKnown store.now }
     requires queue { IsClaimedQueue store.now (queue_head t) }
     requires block { t + 23 ≤ length store.now }
     ensures { IsTrue result ↔ AllByRecursion
-        (MayStand (lists_in store.now) (Work (task_in store.now t).id)) (task_in store.now t).queue }
+        (IsValidPacket (lists_in store.now) (Work (task_in store.now t).id)) (task_in store.now t).queue }
 {
     let place = QueuePlace::OfTask(field(store, t, TcbField::Id));
-    packets_stand(store, place, store.address_of(t, TcbField::Queue.index()))
+    are_valid_packets(store, place, store.address_of(t, TcbField::Queue.index()))
 }
 
 // Those of the devices.
-fn devices_stand(store: &Store) -> bool
+fn are_valid_device_queues(store: &Store) -> bool
     requires { AreTasksKnown store.now }
     ensures { IsTrue result ↔
-        (AllByRecursion (MayStand (lists_in store.now) Clock) (lists_in store.now).clock
-        × AllByRecursion (MayStand (lists_in store.now) Keyboard) (lists_in store.now).keyboard
-        × AllByRecursion (MayStand (lists_in store.now) Output) (lists_in store.now).output) }
+        (AllByRecursion (IsValidPacket (lists_in store.now) Clock) (lists_in store.now).clock
+        × AllByRecursion (IsValidPacket (lists_in store.now) Keyboard) (lists_in store.now).keyboard
+        × AllByRecursion (IsValidPacket (lists_in store.now) Output) (lists_in store.now).output) }
 {
-    if !packets_stand(store, QueuePlace::OfClock, RootField::ClockQueue.address()) {
+    if !are_valid_packets(store, QueuePlace::OfClock, RootField::ClockQueue.address()) {
         return false;
     }
-    if !packets_stand(store, QueuePlace::OfKeyboard, RootField::KeyQueue.address()) {
+    if !are_valid_packets(store, QueuePlace::OfKeyboard, RootField::KeyQueue.address()) {
         return false;
     }
-    packets_stand(
+    are_valid_packets(
         store,
         QueuePlace::OfOutput,
         RootField::OutputQueue.address(),
@@ -97,26 +97,26 @@ fn devices_stand(store: &Store) -> bool
 }
 
 // The reads that wait for a line.
-fn pending_stands(store: &Store) -> bool
+fn is_valid_pending(store: &Store) -> bool
     requires { AreTasksKnown store.now }
     ensures { IsTrue result ↔
-        AllByRecursion (MayStand (lists_in store.now) Pending) (lists_in store.now).pending }
+        AllByRecursion (IsValidPacket (lists_in store.now) Pending) (lists_in store.now).pending }
 {
     if !has_residents(store) {
         return true;
     }
-    packets_stand(store, QueuePlace::OfConsole, PENDING_HEAD)
+    are_valid_packets(store, QueuePlace::OfConsole, PENDING_HEAD)
 }
 
 // The packets of the queue at a head.
-fn packets_stand(store: &Store, at: QueuePlace, head: u32) -> bool
+fn are_valid_packets(store: &Store, at: QueuePlace, head: u32) -> bool
     requires known { AreTasksKnown store.now }
     requires queue { IsClaimedQueue store.now head }
     ensures { IsTrue result ↔
-        AllByRecursion (MayStand (lists_in store.now) (place_of at)) (packets_at store.now head) }
+        AllByRecursion (IsValidPacket (lists_in store.now) (place_of at)) (packets_at store.now head) }
 {
     for p in packets(store, head) {
-        if !packet_stands(store, at, p) {
+        if !is_valid_packet(store, at, p) {
             return false;
         }
     }

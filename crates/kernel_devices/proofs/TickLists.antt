@@ -15,14 +15,14 @@ use Rattle.kernel_model.specs.KernelRecord.Residents.{resident_words}
 use Rattle.kernel_model.specs.KernelRecord.Root.{resident_data, root_words, unused_entries}
 use Rattle.kernel_model.specs.KernelRecord.Task.{filled}
 use Rattle.kernel_model.specs.KernelRecord.ValidLists.{AreValid}
-use Rattle.kernel_model.specs.KernelRecord.ValidQueues.{MayStand, Place}
+use Rattle.kernel_model.specs.KernelRecord.ValidQueues.{IsValidPacket, Place}
 use Rattle.kernel_model.specs.KernelRecord.ValidQueues.Place.{Clock, Keyboard, Output, Pending, Work}
-use Rattle.kernel_model.specs.KernelRecord.ValidTasks.{CoroutinesStand, IsTask}
+use Rattle.kernel_model.specs.KernelRecord.ValidTasks.{AreValidCoroutines, IsTask}
 use Rattle.kernel_model.specs.KernelRecord.Versions.{highest_id_of}
 use Rattle.kernel_model.proofs.KernelRecord.ChangedLists.{exchange-owned, owners-exchanged}
 use Rattle.kernel_model.proofs.KernelRecord.EachMember.{all-each}
 use Rattle.kernel_model.proofs.KernelRecord.OwnerCounts.{owns-without}
-use Rattle.kernel_model.proofs.KernelRecord.RulesKept.{CoroutinesStand-same, IsTask-kept, MayStand-more, TasksStand-same}
+use Rattle.kernel_model.proofs.KernelRecord.RulesKept.{AreValidCoroutines-same, AreValidTasks-same, IsTask-kept, IsValidPacket-more}
 use Rattle.kernel_devices.specs.Tick.{with_tick}
 
 -- the words of the root behind that of the ticks
@@ -51,12 +51,12 @@ tick-valid l now v =
       blocks = v.blocks;
       numbers = record { version = v.numbers.version; size = v.numbers.size; period = v.numbers.period; residents = v.numbers.residents };
       modules = v.modules;
-      tasks = TasksStand-same l m refl refl (all-each (IsTask l) (IsTask m) (λ t h. IsTask-kept l m t refl refl (λ h. h) (λ _ u h. h) h) l.tasks v.tasks.each) v.tasks;
-      coroutines = all-each (CoroutinesStand l) (CoroutinesStand m) (λ t h. CoroutinesStand-same l m t refl h) l.tasks v.coroutines;
+      tasks = AreValidTasks-same l m refl refl (all-each (IsTask l) (IsTask m) (λ t h. IsTask-kept l m t refl refl (λ h. h) (λ _ u h. h) h) l.tasks v.tasks.each) v.tasks;
+      coroutines = all-each (AreValidCoroutines l) (AreValidCoroutines m) (λ t h. AreValidCoroutines-same l m t refl h) l.tasks v.coroutines;
       queues =
           record {
             tasks =
-                all-each (λ t. AllByRecursion (MayStand l (Work t.id)) t.queue) (λ t. AllByRecursion (MayStand m (Work t.id)) t.queue)
+                all-each (λ t. AllByRecursion (IsValidPacket l (Work t.id)) t.queue) (λ t. AllByRecursion (IsValidPacket m (Work t.id)) t.queue)
                 (λ t all. stay (Work t.id) t.queue all) l.tasks v.queues.tasks;
             clock = stay Clock l.clock v.queues.clock;
             keyboard = stay Keyboard l.keyboard v.queues.keyboard;
@@ -74,8 +74,8 @@ tick-valid l now v =
     m : Lists
     m = with_tick now l
 
-    stay : (at : Place) (ps : List QueuedPacket) → AllByRecursion (MayStand l at) ps → AllByRecursion (MayStand m at) ps
-    stay at ps all = all-each (MayStand l at) (MayStand m at) (λ p h. MayStand-more l m at p refl refl (λ d. d) (λ i some. some) h) ps all
+    stay : (at : Place) (ps : List QueuedPacket) → AllByRecursion (IsValidPacket l at) ps → AllByRecursion (IsValidPacket m at) ps
+    stay at ps all = all-each (IsValidPacket l at) (IsValidPacket m at) (λ p h. IsValidPacket-more l m at p refl refl (λ d. d) (λ i some. some) h) ps all
 
 pub tick-changed : (s t : List ℕ) (l : Lists) (now : ℕ) → HoldsLists s l → t ≡ set s 108 now → IsChanged s t (with_tick now l) []
 tick-changed s t l now h is = exchange-owned s t l (with_tick now l) _ _ h (tick-valid l now h.valid) refl (tick-exchange l now) is

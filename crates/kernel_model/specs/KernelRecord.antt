@@ -19,7 +19,7 @@ pub mod Recovered
 pub mod Residents
 pub mod Root
 pub mod Running
-pub mod Standing
+pub mod StoreWithLists
 pub mod Task
 pub mod UsedData
 pub mod ValidBlocks

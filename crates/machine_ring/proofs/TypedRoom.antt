@@ -9,8 +9,8 @@ use Rattle.tripos_machine.specs.State.State.{Bare, Full}
 use Rattle.machine_ring.specs.Rounds.{has_room}
 
 pub room-is : (p : KernelParts) (s : State) → RepresentsFullState p s → is_none (slice_get p.tty 127) ≡ has_room s
-room-is p (Bare m) stands = absurd stands
-room-is p (Full k) stands = ap (λ l. is_none (slice_get l 127)) stands.type_ahead ∙ past k.type_ahead
+room-is p (Bare m) represents = absurd represents
+room-is p (Full k) represents = ap (λ l. is_none (slice_get l 127)) represents.type_ahead ∙ past k.type_ahead
   where
     past : (l : List ℕ) → is_none (slice_get l 127) ≡ nat_lt (length l) 128
     past l = on (nat_lt (length l) 128) refl

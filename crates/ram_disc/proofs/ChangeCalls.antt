@@ -12,7 +12,7 @@ use Rattle.ram_disc.specs.Contents.{Area, Empties, bytes_at}
 use Rattle.ram_disc.specs.Disc.{AreInOrder, Disc, File, Stream, bytes_of, has_file, is_before, is_on, is_used, most_files, most_sectors, most_streams, sectors_taken}
 use Rattle.ram_disc.specs.DiscCalls.{Outcome, after_delete, after_open_write, after_rename, file, free_stream, has_free_stream, has_place, unless_refused, with_file, with_stream, without_file, writer}
 use Rattle.ram_disc.specs.Name.{IsName}
-use Rattle.ram_disc.specs.Slots.{AreKept, HasPlace, IsAt, StandsAt, disc_in, file_in, files_in, name_in, stands_on, stream_in, streams_in}
+use Rattle.ram_disc.specs.Slots.{AreKept, HasPlace, IsAt, IsValidPlace, disc_in, file_in, files_in, is_on_slot, name_in, stream_in, streams_in}
 use Rattle.ram_disc.specs.declared.places.Place.{Place}
 use Rattle.ram_disc.proofs.Calls.{none-to-open, outcome, position-below, to-open}
 use Rattle.ram_disc.proofs.ChainLemmas.{place-times, times-get_or}
@@ -54,7 +54,7 @@ kept-new names a used unused table is e f =
         room = omega (arith, ap (λ (x : Area). x.left) is, ap (λ us. sectors_taken (files_in names a.bytes us)) e);
       };
       numbers = refl;
-      stand = λ k p g. absurd (none-some p (sym (get_or-nones most_streams k) ∙ g));
+      streams = λ k p g. absurd (none-some p (sym (get_or-nones most_streams k) ∙ g));
     }
 
 -- the streams, where a slot on which none of them stands has another name
@@ -137,14 +137,14 @@ module _ (names : List (List ℕ)) (a : Area) (used unused : List ℕ) (ps : Lis
   Write name t u v n = unless_refused D ((t, 47) ∷ (u, 45) ∷ (v, 44) ∷ []) n (with_stream (record D { files = with_file (file name []) (files_in names a.bytes used) }) n (Some (writer name 0)))
 
   write-found : AreKept names a used unused ps → (name : List ℕ) (i : ℕ) → IsAt names used name i
-      → after_open_write D name ≡ Write name (not (list_any (stands_on (S i)) ps)) (has_free_stream D) (has_place D name) (free_stream D)
+      → after_open_write D name ≡ Write name (not (list_any (is_on_slot (S i)) ps)) (has_free_stream D) (has_place D name) (free_stream D)
   write-found h name i at = ap (λ t. Write name (not t) (has_free_stream D) (has_place D name) (free_stream D)) (is_used-at names a used unused ps h D name i refl at)
 
-  pub write-used : AreKept names a used unused ps → (name : List ℕ) (i : ℕ) → IsAt names used name i → list_any (stands_on (S i)) ps ≡ true
+  pub write-used : AreKept names a used unused ps → (name : List ℕ) (i : ℕ) → IsAt names used name i → list_any (is_on_slot (S i)) ps ≡ true
       → after_open_write D name ≡ outcome (Err 47) D
   write-used h name i at some = write-found h name i at ∙ ap (λ t. Write name (not t) (has_free_stream D) (has_place D name) (free_stream D)) some
 
-  pub write-full : AreKept names a used unused ps → (name : List ℕ) (i : ℕ) → IsAt names used name i → list_any (stands_on (S i)) ps ≡ false
+  pub write-full : AreKept names a used unused ps → (name : List ℕ) (i : ℕ) → IsAt names used name i → list_any (is_on_slot (S i)) ps ≡ false
       → position is_none (take 16 ps) ≡ None → after_open_write D name ≡ outcome (Err 45) D
   write-full h name i at none e =
       write-found h name i at ∙ ap (λ t. Write name (not t) (has_free_stream D) (has_place D name) (free_stream D)) none
@@ -162,7 +162,7 @@ module _ (names : List (List ℕ)) (a : Area) (used unused : List ℕ) (ps : Lis
       with_streams : List File → List (Option Stream) → Disc
       with_streams fs xs = record { files = fs; streams = xs }
 
-  pub write-done : AreKept names a used unused ps → (b : Area) (name : List ℕ) (i k : ℕ) → IsAt names used name i → list_any (stands_on (S i)) ps ≡ false
+  pub write-done : AreKept names a used unused ps → (b : Area) (name : List ℕ) (i k : ℕ) → IsAt names used name i → list_any (is_on_slot (S i)) ps ≡ false
       → position is_none (take 16 ps) ≡ Some k → Empties a b (S i)
       → after_open_write D name ≡ outcome (Ok (k + 1)) (disc_in names b.bytes used (set ps k (Some (W (S i)))))
   write-done h b name i k at none e empties =
@@ -176,7 +176,7 @@ module _ (names : List (List ℕ)) (a : Area) (used unused : List ℕ) (ps : Lis
       ∙ ap (λ m. outcome (Ok (k + 1)) (with_stream (record D { files = files_in names b.bytes used }) (k + 1) (Some (writer m 0)))) (sym at.is)
       ∙ ap (outcome (Ok (k + 1))) (stream-files names (files_in names b.bytes used) k (W (S i)) (streams_in names ps) refl)
 
-  pub write-kept : AreKept names a used unused ps → (b : Area) (i k : ℕ) → i < length used → list_any (stands_on (S i)) ps ≡ false
+  pub write-kept : AreKept names a used unused ps → (b : Area) (i k : ℕ) → i < length used → list_any (is_on_slot (S i)) ps ≡ false
       → position is_none (take 16 ps) ≡ Some k → Empties a b (S i) → AreKept names b used unused (set ps k (Some (W (S i))))
   write-kept h b i k lt none e empties =
       let below = position-below is_none (take 16 ps) k e in
@@ -194,16 +194,16 @@ module _ (names : List (List ℕ)) (a : Area) (used unused : List ℕ) (ps : Lis
 
   -- no stream stands on a file that is not there
   pub is_used-none : AreKept names a used unused ps → (name : List ℕ) (i : ℕ) → HasPlace names used name i → is_used D name ≡ false
-  is_used-none h name i place = any-agree (is_on name) (λ q. false) names ps (λ k l. on k (get_or ps k None) (h.stand k)) ∙ none ps
+  is_used-none h name i place = any-agree (is_on name) (λ q. false) names ps (λ k l. on k (get_or ps k None) (h.streams k)) ∙ none ps
     where
       none : (qs : List (Option Place)) → list_any (λ q. false) qs ≡ false
       none [] = refl
       none (q ∷ qs) = none qs
 
-      on : (k : ℕ) (o : Option Place) → ((q : Place) → o ≡ Some q → StandsAt a used ps k q) → is_on name (stream_in names o) ≡ false
-      on k None stand = refl
-      on k (Some q) stand =
-          let spot = place-times q.slot used (stand q refl).is_there in
+      on : (k : ℕ) (o : Option Place) → ((q : Place) → o ≡ Some q → IsValidPlace a used ps k q) → is_on name (stream_in names o) ≡ false
+      on k None streams = refl
+      on k (Some q) streams =
+          let spot = place-times q.slot used (valid-place q refl).is_there in
           let other : name_in names (get_or used spot.0 0) ≢ name = elim (cases_lt spot.0 i) [
             | inl low ↦ is_before-differ (name_in names (get_or used spot.0 0)) name (place.before spot.0 low)
             | inr high ↦ λ same. is_before-differ name (name_in names (get_or used spot.0 0)) (place.after spot.0 high spot.1) (sym same)
@@ -248,7 +248,7 @@ module _ (names : List (List ℕ)) (a : Area) (used unused : List ℕ) (ps : Lis
       ∙ ap (λ xs. insert xs i (file_in now a.bytes s)) (sym (files-other_name names a.bytes used s name free))
       ∙ sym (map-insert (file_in now a.bytes) used i s) in
       let streams : streams_in names ps ≡ streams_in now ps = sym (streams-name names ps s name (λ j q f same.
-      absurd (omega (arith, free, subst (λ t. 0 < times t used) same (h.stand j q f).is_there)))) in
+      absurd (omega (arith, free, subst (λ t. 0 < times t used) same (h.streams j q f).is_there)))) in
       write-new h name i place
       ∙ ap (λ t. Write name true t (ltb (length (files_in names a.bytes used)) most_files) (free_stream D)) found.0
       ∙ ap (λ t. Write name true true t (free_stream D)) (lt-ltb (length (files_in names a.bytes used)) most_files
@@ -267,7 +267,7 @@ module _ (names : List (List ℕ)) (a : Area) (used unused : List ℕ) (ps : Lis
       let free : times s used ≡ 0 = omega (arith, h.slots.once s, counts) in
       let nil : bytes_at a s ≡ [] = h.filled.empty s (omega (arith, counts)) in
       let other : (j : ℕ) (q : Place) → get_or ps j None ≡ Some q → q.slot ≢ s =
-      λ j q f same. absurd (omega (arith, free, subst (λ t. 0 < times t used) same (h.stand j q f).is_there)) in
+      λ j q f same. absurd (omega (arith, free, subst (λ t. 0 < times t used) same (h.streams j q f).is_there)) in
       keep-stream (set names s name) a (insert used i s) rest ps k (W s) (keep-new names a used unused ps rest s i name h split place lawful) (omega (arith, below, length-take 16 ps)) (record {
         is_there = omega (arith, times-insert s used i s, hit-same s s refl);
         within = omega arith;
@@ -285,16 +285,16 @@ module _ (names : List (List ℕ)) (a : Area) (used unused : List ℕ) (ps : Lis
   delete-missing h name i place = ap (λ t. Delete name t (not (is_used D name))) (has_file-none names a.bytes used unused D (files h) name i place)
 
   delete-found : AreKept names a used unused ps → (name : List ℕ) (i : ℕ) → IsAt names used name i
-      → after_delete D name ≡ Delete name true (not (list_any (stands_on (S i)) ps))
+      → after_delete D name ≡ Delete name true (not (list_any (is_on_slot (S i)) ps))
   delete-found h name i at =
       ap (λ t. Delete name t (not (is_used D name))) (has_file-at names a.bytes used unused D (files h) name i at)
       ∙ ap (λ t. Delete name true (not t)) (is_used-at names a used unused ps h D name i refl at)
 
-  pub delete-used : AreKept names a used unused ps → (name : List ℕ) (i : ℕ) → IsAt names used name i → list_any (stands_on (S i)) ps ≡ true
+  pub delete-used : AreKept names a used unused ps → (name : List ℕ) (i : ℕ) → IsAt names used name i → list_any (is_on_slot (S i)) ps ≡ true
       → after_delete D name ≡ outcome (Err 47) D
   delete-used h name i at some = delete-found h name i at ∙ ap (λ t. Delete name true (not t)) some
 
-  pub delete-done : AreKept names a used unused ps → (b : Area) (name : List ℕ) (i : ℕ) → IsAt names used name i → list_any (stands_on (S i)) ps ≡ false
+  pub delete-done : AreKept names a used unused ps → (b : Area) (name : List ℕ) (i : ℕ) → IsAt names used name i → list_any (is_on_slot (S i)) ps ≡ false
       → Empties a b (S i) → after_delete D name ≡ outcome (Ok tt) (disc_in names b.bytes (remove used i) ps)
   delete-done h b name i at none e =
       let lt = at.within in
@@ -321,18 +321,18 @@ module _ (names : List (List ℕ)) (a : Area) (used unused : List ℕ) (ps : Lis
       ∙ ap (λ t. Rename from to true (not t) (not (is_used D from))) (has_file-at names a.bytes used unused D (files h) to j there)
 
   rename-found : AreKept names a used unused ps → (from to : List ℕ) (i j : ℕ) → IsAt names used from i → HasPlace names used to j
-      → after_rename D from to ≡ Rename from to true true (not (list_any (stands_on (S i)) ps))
+      → after_rename D from to ≡ Rename from to true true (not (list_any (is_on_slot (S i)) ps))
   rename-found h from to i j at place =
       ap (λ t. Rename from to t (not (has_file D to)) (not (is_used D from))) (has_file-at names a.bytes used unused D (files h) from i at)
       ∙ ap (λ t. Rename from to true (not t) (not (is_used D from))) (has_file-none names a.bytes used unused D (files h) to j place)
       ∙ ap (λ t. Rename from to true true (not t)) (is_used-at names a used unused ps h D from i refl at)
 
   pub rename-used : AreKept names a used unused ps → (from to : List ℕ) (i j : ℕ) → IsAt names used from i → HasPlace names used to j
-      → list_any (stands_on (S i)) ps ≡ true → after_rename D from to ≡ outcome (Err 47) D
+      → list_any (is_on_slot (S i)) ps ≡ true → after_rename D from to ≡ outcome (Err 47) D
   rename-used h from to i j at place some = rename-found h from to i j at place ∙ ap (λ t. Rename from to true true (not t)) some
 
   pub rename-done : AreKept names a used unused ps → (from to : List ℕ) (i j k : ℕ) → IsAt names used from i → HasPlace names used to j
-      → list_any (stands_on (S i)) ps ≡ false → HasPlace names (remove used i) to k
+      → list_any (is_on_slot (S i)) ps ≡ false → HasPlace names (remove used i) to k
       → after_rename D from to ≡ outcome (Ok tt) (disc_in (set names (S i) to) a.bytes (insert (remove used i) k (S i)) ps)
   rename-done h from to i j k at place none there =
       let lt = at.within in

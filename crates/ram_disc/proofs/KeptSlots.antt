@@ -11,9 +11,9 @@ use Rattle.ram_disc.specs.Contents.{Area, Empties, bytes_at}
 use Rattle.ram_disc.specs.Disc.{AreInOrder, File, is_before, sectors_of}
 use Rattle.ram_disc.specs.DiscCalls.{file}
 use Rattle.ram_disc.specs.Name.{IsName}
-use Rattle.ram_disc.specs.Slots.{AreKept, HasPlace, file_in, files_in, name_in, stands_on}
+use Rattle.ram_disc.specs.Slots.{AreKept, HasPlace, file_in, files_in, is_on_slot, name_in}
 use Rattle.ram_disc.specs.declared.places.Place.{Place}
-use Rattle.ram_disc.proofs.KeptStreams.{place-other, stands-still}
+use Rattle.ram_disc.proofs.KeptStreams.{place-other, place-still-valid}
 use Rattle.ram_disc.proofs.NameOrder.{order-insert, order-remove}
 use Rattle.ram_disc.proofs.SlotLemmas.{files-other_bytes, files-other_name, get_or-files, length-files, map-insert, map-remove, names-other, times-insert, times-remove, used-below, used-inside}
 
@@ -63,12 +63,12 @@ module _ (names : List (List ℕ)) (a : Area) (used unused : List ℕ) (ps : Lis
           room = omega (arith, h.filled.room, ap (sum_by size) files, sum_by-insert size (files_in names a.bytes used) i (file_in now a.bytes s), ap (λ xs. sectors_of (length xs)) nil);
         };
         numbers = h.numbers;
-        stand = λ k p e. let was = h.stand k p e in
-            stands-still a a used (insert used i s) ps k p was (omega (arith, was.is_there, times-insert p.slot used i s)) refl refl;
+        streams = λ k p e. let was = h.streams k p e in
+            place-still-valid a a used (insert used i s) ps k p was (omega (arith, was.is_there, times-insert p.slot used i s)) refl refl;
       }
 
   -- a file goes on which no stream stands
-  pub keep-delete : (b : Area) (i : ℕ) → AreKept names a used unused ps → i < length used → list_any (stands_on (get_or used i 0)) ps ≡ false
+  pub keep-delete : (b : Area) (i : ℕ) → AreKept names a used unused ps → i < length used → list_any (is_on_slot (get_or used i 0)) ps ≡ false
       → Empties a b (get_or used i 0) → AreKept names b (remove used i) (unused ++ get_or used i 0 ∷ []) ps
   keep-delete b i h lt none e =
       let s = get_or used i 0 in
@@ -103,10 +103,10 @@ module _ (names : List (List ℕ)) (a : Area) (used unused : List ℕ) (ps : Lis
           );
         };
         numbers = h.numbers;
-        stand = λ k p at.
+        streams = λ k p at.
             let other = place-other ps s k p none at in
-            let was = h.stand k p at in
-            stands-still a b used (remove used i) ps k p was (omega (arith, was.is_there, times-remove p.slot used i lt, hit-other p.slot s other))
+            let was = h.streams k p at in
+            place-still-valid a b used (remove used i) ps k p was (omega (arith, was.is_there, times-remove p.slot used i lt, hit-other p.slot s other))
             (ap (λ bs. get_or bs p.slot []) e.bytes ∙ get_or-set_other a.bytes s p.slot [] [] other)
             (e.others p.slot other);
       }
@@ -155,6 +155,6 @@ module _ (names : List (List ℕ)) (a : Area) (used unused : List ℕ) (ps : Lis
           );
         };
         numbers = h.numbers;
-        stand = λ k p e. let was = h.stand k p e in
-            stands-still a a used (insert rest j s) ps k p was (omega (arith, was.is_there, again p.slot)) refl refl;
+        streams = λ k p e. let was = h.streams k p e in
+            place-still-valid a a used (insert rest j s) ps k p was (omega (arith, was.is_there, again p.slot)) refl refl;
       }

@@ -8,7 +8,7 @@ use Rattle.word_store.specs.Count.{times}
 use Rattle.ram_disc.specs.Contents.{Adds, Area, Empties, bytes_at, chain_at}
 use Rattle.ram_disc.specs.Disc.{File, most_streams, sectors_of, shell_stream}
 use Rattle.ram_disc.specs.DiscCalls.{file}
-use Rattle.ram_disc.specs.Slots.{AreFilled, AreKept, StandsAt, files_in, name_in, stands_on}
+use Rattle.ram_disc.specs.Slots.{AreFilled, AreKept, IsValidPlace, files_in, is_on_slot, name_in}
 use Rattle.ram_disc.specs.declared.places.Place.{Place}
 use Rattle.ram_disc.proofs.SlotLemmas.{files-bytes, get_or-files, length-files, used-below, used-once}
 use Rattle.ram_disc.proofs.StreamLemmas.{any-none}
@@ -25,9 +25,9 @@ pub place-inside : (ps : List (Option Place)) (k : ℕ) (p : Place) → get_or p
 place-inside ps k p e = elim (cases_lt k (length ps)) [ inl h ↦ h | inr past ↦ absurd (none-some p (sym (get_or_past ps k None past) ∙ e)) ]
 
 -- no stream stands on the slot
-pub place-other : (ps : List (Option Place)) (s k : ℕ) (p : Place) → list_any (stands_on s) ps ≡ false → get_or ps k None ≡ Some p → p.slot ≢ s
+pub place-other : (ps : List (Option Place)) (s k : ℕ) (p : Place) → list_any (is_on_slot s) ps ≡ false → get_or ps k None ≡ Some p → p.slot ≢ s
 place-other ps s k p none e =
-    eqb-false p.slot s (ap (stands_on s) (sym e) ∙ any-none (stands_on s) ps none k (place-inside ps k p e))
+    eqb-false p.slot s (ap (is_on_slot s) (sym e) ∙ any-none (is_on_slot s) ps none k (place-inside ps k p e))
 
 -- what a stream needs to come in as stream k
 pub record Comes (a : Area) (used : List ℕ) (ps : List (Option Place)) (k : ℕ) (p : Place) : Type 0 where
@@ -40,9 +40,9 @@ pub record Comes (a : Area) (used : List ℕ) (ps : List (Option Place)) (k : �
   pub sector : p.position < length (bytes_at a p.slot) → p.sector ≡ get_or (chain_at a p.slot) (p.position / 512) 0
 
 -- a stream stands as before, where its slot's bytes and sectors are as before
-pub stands-still : (a b : Area) (used other : List ℕ) (ps : List (Option Place)) (k : ℕ) (p : Place) → StandsAt a used ps k p → 0 < times p.slot other
-    → bytes_at b p.slot ≡ bytes_at a p.slot → chain_at b p.slot ≡ chain_at a p.slot → StandsAt b other ps k p
-stands-still a b used other ps k p h is bytes chain = record {
+pub place-still-valid : (a b : Area) (used other : List ℕ) (ps : List (Option Place)) (k : ℕ) (p : Place) → IsValidPlace a used ps k p → 0 < times p.slot other
+    → bytes_at b p.slot ≡ bytes_at a p.slot → chain_at b p.slot ≡ chain_at a p.slot → IsValidPlace b other ps k p
+place-still-valid a b used other ps k p h is bytes chain = record {
   is_there = is;
   within = omega (arith, h.within, ap length bytes);
   at_end = λ w. h.at_end w ∙ ap length (sym bytes);
@@ -62,10 +62,10 @@ module _ (names : List (List ℕ)) (a : Area) (used unused : List ℕ) (ps : Lis
         slots = h.slots;
         filled = h.filled;
         numbers = length-set ps k (Some p) ∙ h.numbers;
-        stand = λ j q e. elim (cases_eq j k) [
+        streams = λ j q e. elim (cases_eq j k) [
           | inl same ↦ (
               let here : get_or new j None ≡ Some p = ap (λ i. get_or new i None) same ∙ get_or-set_same ps k (Some p) None room in
-              let P : Place → Type 0 = λ r. StandsAt a used new j r in
+              let P : Place → Type 0 = λ r. IsValidPlace a used new j r in
               subst P (some-same p q (sym here ∙ e)) (record {
                 is_there = c.is_there;
                 within = c.within;
@@ -80,7 +80,7 @@ module _ (names : List (List ℕ)) (a : Area) (used unused : List ℕ) (ps : Lis
               )
           | inr ne ↦ (
               let there : get_or ps j None ≡ Some q = sym (get_or-set_other ps k j (Some p) None ne) ∙ e in
-              let was = h.stand j q there in
+              let was = h.streams j q there in
               record {
                 is_there = was.is_there;
                 within = was.within;
@@ -109,10 +109,10 @@ module _ (names : List (List ℕ)) (a : Area) (used unused : List ℕ) (ps : Lis
         slots = h.slots;
         filled = h.filled;
         numbers = length-set ps k None ∙ h.numbers;
-        stand = λ j q e. elim (cases_eq j k) [
+        streams = λ j q e. elim (cases_eq j k) [
           | inl same ↦ absurd (none-some q (sym (gone j same) ∙ e))
           | inr ne ↦ (
-              let was = h.stand j q (sym (get_or-set_other ps k j None None ne) ∙ e) in
+              let was = h.streams j q (sym (get_or-set_other ps k j None None ne) ∙ e) in
               record {
                 is_there = was.is_there;
                 within = was.within;
@@ -158,15 +158,15 @@ module _ (names : List (List ℕ)) (a : Area) (used unused : List ℕ) (ps : Lis
       }
 
   -- a slot on which no stream stands is emptied
-  pub keep-clear : (b : Area) (i : ℕ) → AreKept names a used unused ps → i < length used → list_any (stands_on (get_or used i 0)) ps ≡ false
+  pub keep-clear : (b : Area) (i : ℕ) → AreKept names a used unused ps → i < length used → list_any (is_on_slot (get_or used i 0)) ps ≡ false
       → Empties a b (get_or used i 0) → AreKept names b used unused ps
   keep-clear b i h lt none e = record {
     slots = h.slots;
     filled = filled-change b i [] h lt e.bytes (omega (arith, e.left));
     numbers = h.numbers;
-    stand = λ k p at.
+    streams = λ k p at.
         let other = place-other ps (get_or used i 0) k p none at in
-        stands-still a b used used ps k p (h.stand k p at) (h.stand k p at).is_there
+        place-still-valid a b used used ps k p (h.streams k p at) (h.streams k p at).is_there
         (ap (λ bs. get_or bs p.slot []) e.bytes ∙ get_or-set_other a.bytes (get_or used i 0) p.slot [] [] other)
         (e.others p.slot other);
   }
@@ -180,7 +180,7 @@ module _ (names : List (List ℕ)) (a : Area) (used unused : List ℕ) (ps : Lis
       let s = get_or used i 0 in
       let new = set ps k (Some q) in
       let room = place-inside ps k p at in
-      let was = h.stand k p at in
+      let was = h.streams k p at in
       let inside : s < length a.bytes = omega (arith, used-below names used unused h.slots i lt, h.filled.table) in
       let here : bytes_at b s ≡ bytes_at a s ++ more = ap (λ bs. get_or bs s []) adds.bytes ∙ get_or-set_same a.bytes s (bytes_at a s ++ more) [] inside in
       let size : length (bytes_at b q.slot) ≡ length (bytes_at a p.slot) + length more =
@@ -191,10 +191,10 @@ module _ (names : List (List ℕ)) (a : Area) (used unused : List ℕ) (ps : Lis
         slots = h.slots;
         filled = filled-change b i (bytes_at a s ++ more) h lt adds.bytes (omega (arith, adds.left, length-append (bytes_at a s) more));
         numbers = length-set ps k (Some q) ∙ h.numbers;
-        stand = λ j r e. elim (cases_eq j k) [
+        streams = λ j r e. elim (cases_eq j k) [
           | inl same ↦ (
               let is : get_or new j None ≡ Some q = ap (λ x. get_or new x None) same ∙ get_or-set_same ps k (Some q) None room in
-              let Q : Place → Type 0 = λ o. StandsAt b used new j o in
+              let Q : Place → Type 0 = λ o. IsValidPlace b used new j o in
               subst Q (some-same q r (sym is ∙ e)) (record {
                 is_there = subst (λ t. 0 < times t used) (sym same_slot) was.is_there;
                 within = omega (arith, end);
@@ -209,9 +209,9 @@ module _ (names : List (List ℕ)) (a : Area) (used unused : List ℕ) (ps : Lis
               )
           | inr ne ↦ (
               let there : get_or ps j None ≡ Some r = sym (get_or-set_other ps k j (Some q) None ne) ∙ e in
-              let old = h.stand j r there in
+              let old = h.streams j r there in
               let apart : r.slot ≢ s = λ t. ne (was.alone writes j r there (t ∙ slot)) in
-              let still = stands-still a b used used ps j r old old.is_there
+              let still = place-still-valid a b used used ps j r old old.is_there
               (ap (λ bs. get_or bs r.slot []) adds.bytes ∙ get_or-set_other a.bytes s r.slot (bytes_at a s ++ more) [] apart)
               (adds.others r.slot apart) in
               record {

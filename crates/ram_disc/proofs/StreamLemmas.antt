@@ -8,7 +8,7 @@ use Rattle.std.proofs.lemmas.List.{length-map, take-map}
 use Rattle.word_store.specs.Count.{times}
 use Rattle.ram_disc.specs.Contents.{Area}
 use Rattle.ram_disc.specs.Disc.{Disc, Stream, is_on, is_used, is_writer_of, is_written, stream_at}
-use Rattle.ram_disc.specs.Slots.{AreKept, AreSlots, IsAt, StandsAt, name_in, place_in, stands_on, stream_in, streams_in, writes_on}
+use Rattle.ram_disc.specs.Slots.{AreKept, AreSlots, IsAt, IsValidPlace, is_on_slot, name_in, place_in, stream_in, streams_in, writes_on}
 use Rattle.ram_disc.specs.declared.places.Place.{Place}
 use Rattle.word_store.proofs.EqualTexts.{bytes_eq-self}
 use Rattle.ram_disc.proofs.NameOrder.{bytes_eq-other}
@@ -77,21 +77,21 @@ module _ (names : List (List ℕ)) (a : Area) (used unused : List ℕ) (ps : Lis
       ]
 
   pub is_used-at : AreKept names a used unused ps → (d : Disc) (name : List ℕ) (i : ℕ) → d.streams ≡ streams_in names ps → IsAt names used name i
-      → is_used d name ≡ list_any (stands_on (get_or used i 0)) ps
+      → is_used d name ≡ list_any (is_on_slot (get_or used i 0)) ps
   is_used-at h d name i e at =
       ap (list_any (is_on name)) e
-      ∙ any-agree (is_on name) (stands_on (get_or used i 0)) names ps (λ k lt. on k (get_or ps k None) (h.stand k))
+      ∙ any-agree (is_on name) (is_on_slot (get_or used i 0)) names ps (λ k lt. on k (get_or ps k None) (h.streams k))
     where
-      on : (k : ℕ) (p : Option Place) → ((q : Place) → p ≡ Some q → StandsAt a used ps k q) → is_on name (stream_in names p) ≡ stands_on (get_or used i 0) p
-      on k None stand = refl
-      on k (Some q) stand = on-slot h.slots name i q.slot at (stand q refl).is_there
+      on : (k : ℕ) (p : Option Place) → ((q : Place) → p ≡ Some q → IsValidPlace a used ps k q) → is_on name (stream_in names p) ≡ is_on_slot (get_or used i 0) p
+      on k None streams = refl
+      on k (Some q) streams = on-slot h.slots name i q.slot at (valid-place q refl).is_there
 
   pub is_written-at : AreKept names a used unused ps → (d : Disc) (name : List ℕ) (i : ℕ) → d.streams ≡ streams_in names ps → IsAt names used name i
       → is_written d name ≡ list_any (writes_on (get_or used i 0)) ps
   is_written-at h d name i e at =
       ap (list_any (is_writer_of name)) e
-      ∙ any-agree (is_writer_of name) (writes_on (get_or used i 0)) names ps (λ k lt. on k (get_or ps k None) (h.stand k))
+      ∙ any-agree (is_writer_of name) (writes_on (get_or used i 0)) names ps (λ k lt. on k (get_or ps k None) (h.streams k))
     where
-      on : (k : ℕ) (p : Option Place) → ((q : Place) → p ≡ Some q → StandsAt a used ps k q) → is_writer_of name (stream_in names p) ≡ writes_on (get_or used i 0) p
-      on k None stand = refl
-      on k (Some q) stand = ap (λ b. b && q.writes) (on-slot h.slots name i q.slot at (stand q refl).is_there)
+      on : (k : ℕ) (p : Option Place) → ((q : Place) → p ≡ Some q → IsValidPlace a used ps k q) → is_writer_of name (stream_in names p) ≡ writes_on (get_or used i 0) p
+      on k None streams = refl
+      on k (Some q) streams = ap (λ b. b && q.writes) (on-slot h.slots name i q.slot at (valid-place q refl).is_there)

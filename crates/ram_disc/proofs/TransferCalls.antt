@@ -64,7 +64,7 @@ module _ (names : List (List ℕ)) (a : Area) (used unused : List ℕ) (ps : Lis
       → bytes_read D k count ≡ take count (drop p.position (bytes_at a p.slot))
   read-bytes h k count p e r =
       let number = place-number ps k p e in
-      let st = h.stand (k - 1) p number.1 in
+      let st = h.streams (k - 1) p number.1 in
       let yes : is_reader (stream_at D k) ≡ true = ap is_reader (stream-is k p e) ∙ ap not r in
       ap (λ t. cond t (take count (bytes_left D (stream_at D k))) []) yes
       ∙ ap (λ s. take count (bytes_left D s)) (stream-is k p e)
@@ -95,7 +95,7 @@ module _ (names : List (List ℕ)) (a : Area) (used unused : List ℕ) (ps : Lis
       → AreKept names a used unused (set ps (k - 1) (Some q))
   read-kept h k n p q e r within slot mode moved sector =
       let number = place-number ps k p e in
-      let st = h.stand (k - 1) p number.1 in
+      let st = h.streams (k - 1) p number.1 in
       let reads : q.writes ≡ false = mode ∙ r in
       let bytes : bytes_at a q.slot ≡ bytes_at a p.slot = ap (bytes_at a) slot in
       keep-stream names a used unused ps (k - 1) q h (omega (arith, place-inside ps (k - 1) p number.1, h.numbers)) (record {
@@ -103,7 +103,7 @@ module _ (names : List (List ℕ)) (a : Area) (used unused : List ℕ) (ps : Lis
         within = omega (arith, moved, within, ap length bytes);
         at_end = λ w. absurd (true≢false (sym w ∙ reads));
         alone = λ w. absurd (true≢false (sym w ∙ reads));
-        others = λ j o f w same. sym ((h.stand j o f).alone w (k - 1) p number.1 (sym (same ∙ slot)));
+        others = λ j o f w same. sym ((h.streams j o f).alone w (k - 1) p number.1 (sym (same ∙ slot)));
         shell_reads = λ t. reads;
         sector = λ less. sector (omega (arith, less, moved, ap length bytes)) ∙ ap (λ t. get_or (chain_at a t) ((p.position + n) / 512) 0) (sym slot)
             ∙ ap (λ x. get_or (chain_at a q.slot) (x / 512) 0) (sym moved);
@@ -119,7 +119,7 @@ module _ (names : List (List ℕ)) (a : Area) (used unused : List ℕ) (ps : Lis
   append-is : AreKept names a used unused ps → (k : ℕ) (more : List ℕ) (p : Place) → place_in ps k ≡ Some p
       → with_more D (stream_at D k) more ≡ record D { files = Files p more }
   append-is h k more p e =
-      let st = h.stand (k - 1) p (place-number ps k p e).1 in
+      let st = h.streams (k - 1) p (place-number ps k p e).1 in
       ap (λ s. with_more D s more) (stream-is k p e)
       ∙ ap (λ bs. with_bytes D (name_in names p.slot) (bs ++ more)) (bytes-at h p st.is_there)
 
@@ -154,7 +154,7 @@ module _ (names : List (List ℕ)) (a : Area) (used unused : List ℕ) (ps : Lis
   pub append-full : AreKept names a used unused ps → (k : ℕ) (more : List ℕ) (p : Place) → place_in ps k ≡ Some p → p.writes ≡ true
       → sectors_of (length (bytes_at a p.slot)) + a.left < sectors_of (length (bytes_at a p.slot) + length more) → after_append D k more ≡ outcome (Err 43) D
   append-full h k more p e w full =
-      let st = h.stand (k - 1) p (place-number ps k p e).1 in
+      let st = h.streams (k - 1) p (place-number ps k p e).1 in
       append-writer h k more p e w
       ∙ ap (Append k more true) (lt-leb (sectors_taken (Files p more)) most_sectors (omega (arith, full, sectors-then h more p st.is_there)))
 
@@ -163,7 +163,7 @@ module _ (names : List (List ℕ)) (a : Area) (used unused : List ℕ) (ps : Lis
       → q.slot ≡ p.slot → q.writes ≡ p.writes → q.position ≡ p.position + length more
       → after_append D k more ≡ outcome (Ok tt) (disc_in names b.bytes used (set ps (k - 1) (Some q)))
   append-done h b k more p q e w room adds slot mode moved =
-      let st = h.stand (k - 1) p (place-number ps k p e).1 in
+      let st = h.streams (k - 1) p (place-number ps k p e).1 in
       let spot = spot-at h p st.is_there in
       let fs : Files p more ≡ files_in names b.bytes used =
       files-set names a used unused ps b spot.0 (name_in names p.slot) (bytes_at a p.slot ++ more) h spot.2
@@ -188,7 +188,7 @@ module _ (names : List (List ℕ)) (a : Area) (used unused : List ℕ) (ps : Lis
       → AreKept names b used unused (set ps (k - 1) (Some q))
   append-kept h b k more p q e w adds slot mode moved =
       let number = place-number ps k p e in
-      let st = h.stand (k - 1) p number.1 in
+      let st = h.streams (k - 1) p number.1 in
       let spot = spot-at h p st.is_there in
       keep-append names a used unused ps b spot.0 (k - 1) p q more h spot.2.within number.1 w spot.1
       (subst (λ t. Adds a b t more) (sym spot.1) adds) slot (mode ∙ w) moved

@@ -3,10 +3,10 @@ use Rattle.std.proofs.Common.{◌≡◌, ℕ, ◌-◌, ◌<◌, List, [], length
 use Rattle.std.proofs.lemmas.Bool.{cases_eq, eq-eqb, ne_eqb}
 use Rattle.std.proofs.lemmas.List.{length-map}
 use Rattle.ram_disc.specs.Contents.{Area, bytes_at}
-use Rattle.ram_disc.specs.Disc.{Disc, IsDisc, StandsOn, Stream, bytes_of, stream_at}
+use Rattle.ram_disc.specs.Disc.{Disc, IsDisc, IsValidStream, Stream, bytes_of, stream_at}
 use Rattle.ram_disc.specs.DiscCalls.{file}
 use Rattle.ram_disc.specs.Name.{IsName}
-use Rattle.ram_disc.specs.Slots.{AreKept, IsAt, StandsAt, disc_in, files_in, name_in, place_in, stream_in}
+use Rattle.ram_disc.specs.Slots.{AreKept, IsAt, IsValidPlace, disc_in, files_in, name_in, place_in, stream_in}
 use Rattle.ram_disc.specs.declared.places.Place.{Place}
 use Rattle.ram_disc.proofs.ChainLemmas.{place-times, times-get_or}
 use Rattle.ram_disc.proofs.KeptStreams.{none-some}
@@ -42,10 +42,10 @@ module _ (names : List (List ℕ)) (a : Area) (used unused : List ℕ) (ps : Lis
   abbrev D : Disc
   D = disc_in names a.bytes used ps
 
-  stands-on : AreKept names a used unused ps → (k : ℕ) (p : Place) → place_in ps k ≡ Some p → StandsOn D k (stream_of_place names p)
-  stands-on h k p e =
+  valid-stream : AreKept names a used unused ps → (k : ℕ) (p : Place) → place_in ps k ≡ Some p → IsValidStream D k (stream_of_place names p)
+  valid-stream h k p e =
       let number = place-number ps k p e in
-      let st : StandsAt a used ps (k - 1) p = h.stand (k - 1) p number.1 in
+      let st : IsValidPlace a used ps (k - 1) p = h.streams (k - 1) p number.1 in
       let spot = place-times p.slot used st.is_there in
       let at : IsAt names used (name_in names p.slot) spot.0 = record { within = spot.1; is = ap (name_in names) spot.2 } in
       let files : HasFiles names a.bytes used unused D = record { slots = h.slots; files = refl } in
@@ -59,7 +59,7 @@ module _ (names : List (List ℕ)) (a : Area) (used unused : List ℕ) (ps : Lis
             let found = open-place names ps D j other (stream_at-place names ps D j refl) f in
             let q = found.0 in
             let there = place-number ps j q found.1 in
-            let on = h.stand (j - 1) q there.1 in
+            let on = h.streams (j - 1) q there.1 in
             let slot : q.slot ≡ p.slot = slots-distinct names used unused h.slots q.slot p.slot on.is_there st.is_there (ap (λ s. s.name) found.2 ∙ same) in
             omega (arith, there.0, number.0, st.alone w (j - 1) q there.1 slot);
         shell_reads = λ t. st.shell_reads (omega (arith, t, number.0));
@@ -74,7 +74,7 @@ module _ (names : List (List ℕ)) (a : Area) (used unused : List ℕ) (ps : Lis
     few = omega (arith, h.slots.all, length-files names a.bytes used);
     room = omega (arith, h.filled.room);
     numbers = length-map ps (stream_in names) ∙ h.numbers;
-    stand = λ k s e.
+    streams = λ k s e.
         let found = open-place names ps D k s (stream_at-place names ps D k refl) e in
-        subst (StandsOn D k) found.2 (stands-on h k found.0 found.1);
+        subst (IsValidStream D k) found.2 (valid-stream h k found.0 found.1);
   }

@@ -107,7 +107,7 @@ AreInOrder (name ∷ names) = AllByRecursion (λ other. is_before name other ≡
 
 -- Stream k is open on a file of the disc: a reader at most at its end, a writer at its end and with no other stream on
 -- the file. The shell's stream reads.
-pub record StandsOn (d : Disc) (k : ℕ) (s : Stream) : Type 0 where
+pub record IsValidStream (d : Disc) (k : ℕ) (s : Stream) : Type 0 where
   -- its file is on the disc
   pub is_there : has_file d s.name ≡ true
   -- it is at most at the file's end
@@ -132,4 +132,4 @@ pub record IsDisc (d : Disc) : Type 0 where
   -- there are as many streams as there have to be
   pub numbers : length d.streams ≡ most_streams
   -- each open stream is on its file
-  pub stand : (k : ℕ) (s : Stream) → stream_at d k ≡ Some s → StandsOn d k s
+  pub streams : (k : ℕ) (s : Stream) → stream_at d k ≡ Some s → IsValidStream d k s

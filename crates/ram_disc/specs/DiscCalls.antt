@@ -164,8 +164,8 @@ abbrev pub can_write_from : Disc → List ℕ → ℕ → Bool
 can_write_from d name place = (place == length (bytes_of d name)) && not (is_used d name)
 
 -- Stream k may be set on this place of the file. The shell's stream reads, so it may not be set to write.
-abbrev pub can_stand : Disc → ℕ → List ℕ → ℕ → Bool → Bool
-can_stand d k name place writes =
+abbrev pub can_restore : Disc → ℕ → List ℕ → ℕ → Bool → Bool
+can_restore d k name place writes =
     nat_le 1 k && nat_le k most_streams && is_none (stream_at d k) && has_file d name
     && nat_le place (length (bytes_of d name)) && not (is_written d name)
     && (not writes || (not (k == shell_stream) && can_write_from d name place))
@@ -176,4 +176,4 @@ with_place d k name place writes = with_stream d k (Some (record { name = name; 
 
 -- a stream is put back to a place of a file, as a saved machine or an undone step has it, where it can be there
 abbrev pub after_restore : Disc → ℕ → List ℕ → ℕ → Bool → Disc
-after_restore d k name place writes = if can_stand d k name place writes then with_place d k name place writes else d
+after_restore d k name place writes = if can_restore d k name place writes then with_place d k name place writes else d

@@ -33,9 +33,9 @@ abbrev pub disc_in : List (List ℕ) → List (List ℕ) → List ℕ → List (
 disc_in names bytes used places = record { files = files_in names bytes used; streams = streams_in names places }
 
 -- a stream is open on the slot
-abbrev pub stands_on : ℕ → Option Place → Bool
-stands_on slot None = false
-stands_on slot (Some p) = p.slot == slot
+abbrev pub is_on_slot : ℕ → Option Place → Bool
+is_on_slot slot None = false
+is_on_slot slot (Some p) = p.slot == slot
 
 -- whether a stream writes on the slot
 abbrev pub writes_on : ℕ → Option Place → Bool
@@ -88,7 +88,7 @@ pub record AreFilled (names : List (List ℕ)) (a : Area) (used unused : List �
 
 -- Stream k, counted from 0, is open on a used slot: a reader at most at its end, a writer at its end and with no other
 -- stream on the slot. The shell's stream reads. The place has the sector of its position.
-pub record StandsAt (a : Area) (used : List ℕ) (places : List (Option Place)) (k : ℕ) (p : Place) : Type 0 where
+pub record IsValidPlace (a : Area) (used : List ℕ) (places : List (Option Place)) (k : ℕ) (p : Place) : Type 0 where
   -- its slot is used
   pub is_there : 0 < times p.slot used
   -- it is at most after the slot's last byte
@@ -111,4 +111,4 @@ pub record AreKept (names : List (List ℕ)) (a : Area) (used unused : List ℕ)
   -- there are as many streams as there have to be
   pub numbers : length places ≡ most_streams
   -- each open stream is on a used slot
-  pub stand : (k : ℕ) (p : Place) → slice_index_or places k None ≡ Some p → StandsAt a used places k p
+  pub streams : (k : ℕ) (p : Place) → slice_index_or places k None ≡ Some p → IsValidPlace a used places k p

@@ -2,7 +2,7 @@
 ghost use Rattle.std.specs.Prelude.{◌≡◌, ◌<◌, ◌≤◌, ◌++◌, ◌-◌, None, IfOk, IsTrue, drop, length, nat_lt, if◌then◌else◌};
 ghost use Rattle.std.specs.Option.{option_map};
 ghost use Rattle.ram_disc.specs.Disc.{IsDisc, empty_disc, file_named, shell_stream, stream_at};
-ghost use Rattle.ram_disc.specs.DiscCalls.{after_append, after_close, after_delete, after_open_read, after_open_write, after_read_on, after_rename, after_restore, bytes_read, can_stand, nth_of, size_of, stream_of};
+ghost use Rattle.ram_disc.specs.DiscCalls.{after_append, after_close, after_delete, after_open_read, after_open_write, after_read_on, after_rename, after_restore, bytes_read, can_restore, nth_of, size_of, stream_of};
 
 use crate::Name;
 use crate::codes::{DIRECTORY_FULL, DISC_FULL, IN_USE, NAME_TAKEN, NO_FILE, NO_STREAM, NOT_OPEN};
@@ -10,8 +10,8 @@ use crate::contents::Contents;
 use crate::directory::Directory;
 use crate::file_bytes::FileBytes;
 use crate::places::{
-    Place, STREAMS, free_stream, is_free, is_open, is_written, may_stand, place_at, stream_to_open,
-    writer,
+    Place, STREAMS, free_stream, is_free, is_open, is_written, may_be_placed, place_at,
+    stream_to_open, writer,
 };
 use arrayvec::ArrayVec;
 use byte_streams::WantMemory;
@@ -274,7 +274,7 @@ impl Disc {
     /// Sets stream k on a place of a file, as `stream` told it. The answer is false where the stream may not stand there;
     /// then nothing changes.
     pub fn restore_stream(&mut self, k: u32, name: &Name, pos: u32, write: bool) -> bool
-        ensures answer { result ≡ can_stand self.old k name.now pos write }
+        ensures answer { result ≡ can_restore self.old k name.now pos write }
         ensures disc { self.new ≡ after_restore self.old k name.now pos write }
     {
         if !is_free(&self.streams, k) {
@@ -285,7 +285,7 @@ impl Disc {
         };
         let slot = self.directory.slot_at(place);
         let size = self.contents.len(slot as usize);
-        if !may_stand(&self.streams, k, slot, pos, size, write) {
+        if !may_be_placed(&self.streams, k, slot, pos, size, write) {
             return false;
         }
         let sector = self.contents.sector_at(slot as usize, pos);

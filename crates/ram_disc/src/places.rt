@@ -3,7 +3,7 @@ ghost use Rattle.std.specs.Prelude.{◌≡◌, ◌+◌, ◌<◌, ◌^◌, ◌==�
 ghost use Rattle.std.specs.List.{list_any};
 ghost use Rattle.std.specs.Option.{is_none};
 ghost use Rattle.ram_disc.specs.Disc.{most_streams, shell_stream};
-ghost use Rattle.ram_disc.specs.Slots.{place_in, stands_on, writes_on};
+ghost use Rattle.ram_disc.specs.Slots.{is_on_slot, place_in, writes_on};
 
 /// The number of streams. The last one is the shell's, those before it are the file handler's.
 pub(crate) const STREAMS: usize = 17;
@@ -41,7 +41,7 @@ impl Place {
 
 /// Whether a stream is open on a slot.
 pub(crate) fn is_open(streams: &[Option<Place>], slot: u8) -> bool
-    ensures { result ≡ list_any (stands_on slot) streams.now }
+    ensures { result ≡ list_any (is_on_slot slot) streams.now }
 {
     streams
         .iter()
@@ -106,7 +106,7 @@ pub(crate) fn is_free(streams: &[Option<Place>], k: u32) -> bool
 
 /// Whether stream k may stand on a slot at this position, where the slot has so many bytes. A stream that writes stands
 /// at their end, and with no other on the slot.
-pub(crate) fn may_stand(
+pub(crate) fn may_be_placed(
     streams: &[Option<Place>],
     k: u32,
     slot: u8,
@@ -116,7 +116,7 @@ pub(crate) fn may_stand(
 ) -> bool
     ensures { result ≡ (nat_le position size && not (list_any (writes_on slot) streams.now)
         && (not writes || (not (k == shell_stream)
-        && ((position == size) && not (list_any (stands_on slot) streams.now))))) }
+        && ((position == size) && not (list_any (is_on_slot slot) streams.now))))) }
 {
     position <= size
         && !is_written(streams, slot)
@@ -126,7 +126,7 @@ pub(crate) fn may_stand(
 // Whether stream k may write a slot, at the end of its bytes or not.
 fn may_write(streams: &[Option<Place>], k: u32, slot: u8, at_end: bool) -> bool
     ensures { result ≡ (not (k == shell_stream)
-        && (at_end && not (list_any (stands_on slot) streams.now))) }
+        && (at_end && not (list_any (is_on_slot slot) streams.now))) }
 {
     k != STREAMS as u32 && at_end && !is_open(streams, slot)
 }

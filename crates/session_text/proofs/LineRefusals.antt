@@ -98,27 +98,27 @@ MayComeAt AtEntry form = IsEntryForm form
 MayComeAt AtText form = IsEntryForm form
 MayComeAt _ _ = ⊥
 
-pub stands_entry : (p : Place) (form : Form) → MayHaveEntry p → MayComeAt p form → IsEntryForm form
-stands_entry AtResident form a h = h
-stands_entry AtDebug form a h = h
-stands_entry AtEntry form a h = h
-stands_entry AtText form a h = h
-stands_entry AtVersion form a h = absurd a
-stands_entry AtStore form a h = absurd a
-stands_entry AtMachine form a h = absurd a
-stands_entry AtCode form a h = absurd a
-stands_entry AtEnd form a h = absurd a
+pub entry_from_place : (p : Place) (form : Form) → MayHaveEntry p → MayComeAt p form → IsEntryForm form
+entry_from_place AtResident form a h = h
+entry_from_place AtDebug form a h = h
+entry_from_place AtEntry form a h = h
+entry_from_place AtText form a h = h
+entry_from_place AtVersion form a h = absurd a
+entry_from_place AtStore form a h = absurd a
+entry_from_place AtMachine form a h = absurd a
+entry_from_place AtCode form a h = absurd a
+entry_from_place AtEnd form a h = absurd a
 
-entry_stands : (p : Place) (form : Form) → MayHaveEntry p → IsEntryForm form → MayComeAt p form
-entry_stands AtResident form a h = h
-entry_stands AtDebug form a h = h
-entry_stands AtEntry form a h = h
-entry_stands AtText form a h = h
-entry_stands AtVersion form a h = absurd a
-entry_stands AtStore form a h = absurd a
-entry_stands AtMachine form a h = absurd a
-entry_stands AtCode form a h = absurd a
-entry_stands AtEnd form a h = absurd a
+entry_may_come : (p : Place) (form : Form) → MayHaveEntry p → IsEntryForm form → MayComeAt p form
+entry_may_come AtResident form a h = h
+entry_may_come AtDebug form a h = h
+entry_may_come AtEntry form a h = h
+entry_may_come AtText form a h = h
+entry_may_come AtVersion form a h = absurd a
+entry_may_come AtStore form a h = absurd a
+entry_may_come AtMachine form a h = absurd a
+entry_may_come AtCode form a h = absurd a
+entry_may_come AtEnd form a h = absurd a
 
 -- no line without a number or a name is among them
 not_fixed : (p : Place) → ¬ MayComeAt p (Fixed [])
@@ -136,26 +136,26 @@ abbrev IsKindAt : Place → List ℕ → Type 0
 IsKindAt p line = (kind line ≡ Fixed []) ⊎ MayComeAt p (kind line)
 
 -- a statement stands at each place for entries
-stands_statement : (p : Place) (x : Statement) → MayHaveEntry p → MayComeAt p (shape (form_of x))
-stands_statement p (FileOf name) a = entry_stands p File a tt
-stands_statement p (TaskOf id pri stack names) a = entry_stands p (Task 0) a tt
-stands_statement p (AtOf k text) a = entry_stands p At a tt
-stands_statement p (KeyOf k byte) a = entry_stands p Key a tt
-stands_statement p (GoOf steps) a = entry_stands p Go a tt
+statement_may_come : (p : Place) (x : Statement) → MayHaveEntry p → MayComeAt p (shape (form_of x))
+statement_may_come p (FileOf name) a = entry_may_come p File a tt
+statement_may_come p (TaskOf id pri stack names) a = entry_may_come p (Task 0) a tt
+statement_may_come p (AtOf k text) a = entry_may_come p At a tt
+statement_may_come p (KeyOf k byte) a = entry_may_come p Key a tt
+statement_may_come p (GoOf steps) a = entry_may_come p Go a tt
 
 -- an accepted entry
 entry_kind : (p : Place) (s : Session) (n : ℕ) (line : List ℕ) (e : Draft) → MayHaveEntry p → entry_step s n line ≡ Ok e → IsKindAt p line
 entry_kind p s n line e a h =
     let x = entry_step-ok s n line e h in
-    inr (subst (MayComeAt p) (sym (kind-states x.statement line x.states)) (stands_statement p x.statement a))
+    inr (subst (MayComeAt p) (sym (kind-states x.statement line x.states)) (statement_may_come p x.statement a))
 
 word_kind : (p : Place) (line word : List ℕ) → kind word ≡ Fixed [] → bytes_eq line word ≡ true → IsKindAt p line
 word_kind p line word k t = inl (ap kind ((bytes_eq-Decides line word).0 t) ∙ k)
 
 number_kind : (p : Place) (word : List ℕ) (k : Form) (test : ℕ → Bool) (n v : ℕ) (line : List ℕ) → ((digits : List ℕ) → kind (word ++ digits) ≡ k) → MayComeAt p k → number_line word test n line ≡ Ok v → IsKindAt p line
-number_kind p word k test n v line is stands h =
+number_kind p word k test n v line is comes h =
     let g = number_line-ok word test n line v h in
-    inr (subst (MayComeAt p) (sym (ap kind g.0.1 ∙ is g.0.0)) stands)
+    inr (subst (MayComeAt p) (sym (ap kind g.0.1 ∙ is g.0.0)) comes)
 
 colon_kind : (p : Place) (line rest : List ℕ) → after_word (codes ":") line ≡ Some rest → IsKindAt p line
 colon_kind p line rest w = inl (ap kind (after_word-ok (codes ":") line rest w))
@@ -209,7 +209,7 @@ accepted_form p s n form line e has h =
       | inr is ↦
           elim (accepted_kind p s n line e h) [
             | inl other ↦ inl (fixed_form form line has (sym is ∙ other))
-            | inr stands ↦ inr (subst (MayComeAt p) is stands)
+            | inr comes ↦ inr (subst (MayComeAt p) is comes)
           ]
     ]
 
@@ -234,7 +234,7 @@ module _ (p : Place) (s : Session) (n : ℕ) (line : List ℕ) (r : Refusal) (re
       | inl fixed ↦
           let same : line ≡ accepts.0 = subst (λ (f : Form). HasForm f line) fixed has in
           cc (sym refused ∙ ap (step (draft p s) n) same ∙ accepts.3)
-      | inr stands ↦ lacks form stands accepts has
+      | inr comes ↦ lacks form comes accepts has
     ],
   )
 
@@ -242,7 +242,7 @@ module _ (p : Place) (s : Session) (n : ℕ) (line : List ℕ) (r : Refusal) (re
   pub wrong_colon : (rest : List ℕ) → after_word (codes ":") line ≡ Some rest → refusal n 1 ≡ r → IsWrong (draft p s) n line r
   wrong_colon rest w code =
       let fixed : kind line ≡ Fixed [] = ap kind (after_word-ok (codes ":") line rest w) in
-      wrong_form code (λ form stands accepts has. elim (kind-form form line has) [
-        | inl same ↦ not_fixed p (subst (λ (f : Form). MayComeAt p (shape f)) same stands)
-        | inr is ↦ not_fixed p (subst (MayComeAt p) (sym is ∙ fixed) stands)
+      wrong_form code (λ form comes accepts has. elim (kind-form form line has) [
+        | inl same ↦ not_fixed p (subst (λ (f : Form). MayComeAt p (shape f)) same comes)
+        | inr is ↦ not_fixed p (subst (MayComeAt p) (sym is ∙ fixed) comes)
       ])

@@ -31,29 +31,29 @@ use Rattle.session_text.proofs.Complete.{MayHaveEntry, enters, statement_again}
 use Rattle.session_text.proofs.Sound.{entry_step-ok, fits_by}
 use Rattle.session_text.proofs.StatementLines.{statement_of-again, statement_of-ok}
 use Rattle.session_text.proofs.StatementTexts.{IsBytes-one, IsPrintable, states_text}
-use Rattle.session_text.proofs.LineRefusals.{Accepts, IsEntryForm, IsWrong, MayComeAt, shape, stands_entry, wrong_colon, wrong_form}
+use Rattle.session_text.proofs.LineRefusals.{Accepts, IsEntryForm, IsWrong, MayComeAt, entry_from_place, shape, wrong_colon, wrong_form}
 
 -- ---- numbers after a word
 
 no_store : (form : Form) (line : List ℕ) → MayComeAt AtStore (shape form) → HasForm form line → ((v : ℕ) → ¬ IsNumberLine (codes "STORE ") v line) → ⊥
-no_store Store line stands has none = none has.0 has.1
-no_store Tick line stands has none = stands
-no_store File line stands has none = stands
-no_store (Task count) line stands has none = stands
-no_store At line stands has none = stands
-no_store Key line stands has none = stands
-no_store Go line stands has none = stands
-no_store (Fixed bytes) line stands has none = stands
+no_store Store line comes has none = none has.0 has.1
+no_store Tick line comes has none = comes
+no_store File line comes has none = comes
+no_store (Task count) line comes has none = comes
+no_store At line comes has none = comes
+no_store Key line comes has none = comes
+no_store Go line comes has none = comes
+no_store (Fixed bytes) line comes has none = comes
 
 no_tick : (form : Form) (line : List ℕ) → MayComeAt AtMachine (shape form) → HasForm form line → ((v : ℕ) → ¬ IsNumberLine (codes "TICK ") v line) → ⊥
-no_tick Tick line stands has none = none has.0 has.1
-no_tick Store line stands has none = stands
-no_tick File line stands has none = stands
-no_tick (Task count) line stands has none = stands
-no_tick At line stands has none = stands
-no_tick Key line stands has none = stands
-no_tick Go line stands has none = stands
-no_tick (Fixed bytes) line stands has none = stands
+no_tick Tick line comes has none = none has.0 has.1
+no_tick Store line comes has none = comes
+no_tick File line comes has none = comes
+no_tick (Task count) line comes has none = comes
+no_tick At line comes has none = comes
+no_tick Key line comes has none = comes
+no_tick Go line comes has none = comes
+no_tick (Fixed bytes) line comes has none = comes
 
 go_number : (x : Statement) (line : List ℕ) → States x line → form_of x ≡ Go → (v : ℕ) × IsNumberLine (codes "GO ") v line
 go_number (FileOf name) line h e = cc e
@@ -63,14 +63,14 @@ go_number (KeyOf k byte) line h e = cc e
 go_number (GoOf steps) line h e = (steps, h)
 
 no_go : (form : Form) (line : List ℕ) → MayComeAt AtCode (shape form) → HasForm form line → ((v : ℕ) → ¬ IsNumberLine (codes "GO ") v line) → ⊥
-no_go Go line stands has none = let g = go_number has.0 line has.1 has.2 in none g.0 g.1
-no_go Store line stands has none = stands
-no_go Tick line stands has none = stands
-no_go File line stands has none = stands
-no_go (Task count) line stands has none = stands
-no_go At line stands has none = stands
-no_go Key line stands has none = stands
-no_go (Fixed bytes) line stands has none = stands
+no_go Go line comes has none = let g = go_number has.0 line has.1 has.2 in none g.0 g.1
+no_go Store line comes has none = comes
+no_go Tick line comes has none = comes
+no_go File line comes has none = comes
+no_go (Task count) line comes has none = comes
+no_go At line comes has none = comes
+no_go Key line comes has none = comes
+no_go (Fixed bytes) line comes has none = comes
 
 -- ---- statements
 
@@ -107,14 +107,14 @@ module _ (p : Place) (s : Session) (n : ℕ) (a : MayHaveEntry p) where
       none_fits (names_fit s.version has.0) has.0 (sym (statement_of-again s.version line has.0 has.1) ∙ none) (same ∙ f)
 
   entry_lacks : (line : List ℕ) → statement_of s.version line ≡ None → (form : Form) → IsEntryForm (shape form) → Accepts (draft p s) n form → ¬ HasForm form line
-  entry_lacks line none Store stands acc has = stands
-  entry_lacks line none Tick stands acc has = stands
-  entry_lacks line none File stands acc has = statement_lacks line File none has acc.0 acc.1 acc.2 acc.3
-  entry_lacks line none (Task count) stands acc has = statement_lacks line (Task count) none has acc.0 acc.1 acc.2 acc.3
-  entry_lacks line none At stands acc has = statement_lacks line At none has acc.0 acc.1 acc.2 acc.3
-  entry_lacks line none Key stands acc has = statement_lacks line Key none has acc.0 acc.1 acc.2 acc.3
-  entry_lacks line none Go stands acc has = statement_lacks line Go none has acc.0 acc.1 acc.2 acc.3
-  entry_lacks line none (Fixed bytes) stands acc has = stands
+  entry_lacks line none Store comes acc has = comes
+  entry_lacks line none Tick comes acc has = comes
+  entry_lacks line none File comes acc has = statement_lacks line File none has acc.0 acc.1 acc.2 acc.3
+  entry_lacks line none (Task count) comes acc has = statement_lacks line (Task count) none has acc.0 acc.1 acc.2 acc.3
+  entry_lacks line none At comes acc has = statement_lacks line At none has acc.0 acc.1 acc.2 acc.3
+  entry_lacks line none Key comes acc has = statement_lacks line Key none has acc.0 acc.1 acc.2 acc.3
+  entry_lacks line none Go comes acc has = statement_lacks line Go none has acc.0 acc.1 acc.2 acc.3
+  entry_lacks line none (Fixed bytes) comes acc has = comes
 
 has_form : (x : Statement) (line : List ℕ) → States x line → HasForm (form_of x) line
 has_form (FileOf name) line h = (FileOf name, h, refl)
@@ -188,7 +188,7 @@ module _ (p : Place) (s : Session) (n : ℕ) (line : List ℕ) (r : Refusal) (re
       elim (bind-err (ok_or (statement_of s.version line) (refusal n 1)) (statement_step s n) r e) [
         | inl q ↦
             let none = ok_or-err (statement_of s.version line) (refusal n 1) r q in
-            wrong_form p s n line r refused none.1 (λ form stands accepts has. entry_lacks p s n a line none.0 form (stands_entry p (shape form) a stands) accepts has)
+            wrong_form p s n line r refused none.1 (λ form comes accepts has. entry_lacks p s n a line none.0 form (entry_from_place p (shape form) a comes) accepts has)
         | inr q ↦
             let x = q.0 in
             let some = ok_or-ok (statement_of s.version line) (refusal n 1) x q.1 in
@@ -209,7 +209,7 @@ go_wrong s n line r refused e =
     elim (bind-err (number_line (codes "GO ") is_step n line) (λ go. Ok (draft AtEnd (record s { go = go }))) r e) [
       | inl p ↦
           elim (number_line-err (codes "GO ") is_step n line r p) [
-            | inl q ↦ wrong_form AtCode s n line r refused q.0 (λ form stands accepts has. no_go form line stands has q.1)
+            | inl q ↦ wrong_form AtCode s n line r refused q.0 (λ form comes accepts has. no_go form line comes has q.1)
             | inr q ↦
                 let sample_line = codes "GO " ++ decimal 0 in
                 let printed = number_printed (codes "GO ") 0 (omega arith) in
@@ -240,7 +240,7 @@ store_wrong s n line r refused e =
     elim (bind-err (number_line (codes "STORE ") (is_store_size s.version) n line) (λ store. Ok (draft AtMachine (record s { store = store }))) r e) [
       | inl p ↦
           elim (number_line-err (codes "STORE ") (is_store_size s.version) n line r p) [
-            | inl q ↦ wrong_form AtStore s n line r refused q.0 (λ form stands accepts has. no_store form line stands has q.1)
+            | inl q ↦ wrong_form AtStore s n line r refused q.0 (λ form comes accepts has. no_store form line comes has q.1)
             | inr q ↦
                 let sample_line = codes "STORE " ++ decimal 1024 in
                 let printed = number_printed (codes "STORE ") 1024 (omega arith) in
@@ -256,7 +256,7 @@ tick_wrong s n line r refused e =
     elim (bind-err (number_line (codes "TICK ") is_period n line) (λ period. Ok (draft AtResident (record s { period = period }))) r e) [
       | inl p ↦
           elim (number_line-err (codes "TICK ") is_period n line r p) [
-            | inl q ↦ wrong_form AtMachine s n line r refused q.0 (λ form stands accepts has. no_tick form line stands has q.1)
+            | inl q ↦ wrong_form AtMachine s n line r refused q.0 (λ form comes accepts has. no_tick form line comes has q.1)
             | inr q ↦
                 let sample_line = codes "TICK " ++ decimal 1 in
                 let printed = number_printed (codes "TICK ") 1 (omega arith) in
@@ -271,7 +271,7 @@ pub step-err : (p : Place) (s : Session) (n : ℕ) (line : List ℕ) (r : Refusa
 unfolding step
 step-err AtVersion s n line r h =
     elim (bind-err (version_line n line) (λ version. Ok (draft AtStore (record s { version = version }))) r h) [
-      | inl p ↦ wrong_form AtVersion s n line r h (version_err n r (bytes_eq line (codes "TRIPOS 1")) (bytes_eq line (codes "TRIPOS 2")) p) (λ form stands accepts has. stands)
+      | inl p ↦ wrong_form AtVersion s n line r h (version_err n r (bytes_eq line (codes "TRIPOS 1")) (bytes_eq line (codes "TRIPOS 2")) p) (λ form comes accepts has. comes)
       | inr p ↦ cc p.2
     ]
 step-err AtStore s n line r h = store_wrong s n line r h h
@@ -293,4 +293,4 @@ step-err AtDebug s n line r h =
     ]
 step-err AtEntry s n line r h = entry_wrong AtEntry s n line r h tt h
 step-err AtText s n line r h = text_wrong s n line r h (after_word (codes ":") line) refl h
-step-err AtEnd s n line r h = wrong_form AtEnd s n line r h (Err-same {A = Draft} (refusal n 1) r h) (λ form stands accepts has. stands)
+step-err AtEnd s n line r h = wrong_form AtEnd s n line r h (Err-same {A = Draft} (refusal n 1) r h) (λ form comes accepts has. comes)

@@ -2,7 +2,7 @@
 use Rattle.std.proofs.Common.{◌≡◌, ◌∙◌, ℕ, zero, suc, ◌≤◌, ◌+◌, ◌↔◌, inl, inr, Result, Ok, Err, List, [], ◌∷◌, ◌++◌, length, refl, sym, ap, subst, arith, append-nil}
 use Rattle.module_text.specs.TextReader.Lines.{lines_of}
 use Rattle.module_text.specs.TextReader.Refusal.{Refusal, refusal}
-use Rattle.session_text.specs.FirstError.{BeginSession, EndsEarly, HasNoForm, IsFirstError, IsOutOfRange, MayStand}
+use Rattle.session_text.specs.FirstError.{BeginSession, EndsEarly, HasNoForm, IsFirstError, IsOutOfRange, MayFollow}
 use Rattle.session_text.specs.Forms.{Form}
 use Rattle.session_text.specs.SessionForm.{IsSession}
 use Rattle.session_text.specs.SessionOfText.{ended, first_draft, read_on, session_of, step}
@@ -29,10 +29,10 @@ module _ (front : List (List ℕ)) (at : Draft) (before : advance first_draft 1 
       (a.0, sym (advance-more first_draft at 1 (1 + length front) front line refl before) ∙ a.1)
 
   -- so a form may stand there where one of its lines is accepted
-  may_stand : (form : Form) → Accepts at (1 + length front) form → MayStand front form
-  may_stand form a = (a.0, a.1, next_begins a.0 a.2 a.3)
+  may_follow : (form : Form) → Accepts at (1 + length front) form → MayFollow front form
+  may_follow form a = (a.0, a.1, next_begins a.0 a.2 a.3)
 
-  accepts_form : (form : Form) → MayStand front form → Accepts at (1 + length front) form
+  accepts_form : (form : Form) → MayFollow front form → Accepts at (1 + length front) form
   accepts_form form m = let a = next_accepted m.0 m.2 in (m.0, m.1, a.0, a.1)
 
   -- a line that is refused begins none
@@ -75,7 +75,7 @@ says_at text n code s (inl w) =
     meaning_of text n 1 code e.1 (first_error text n (refusal n code) HasNoForm s e.0 (λ form may has. w.1 form (accepts_form s.front s.at s.before form may) has))
 says_at text n code s (inr w) =
     let e = line_of-same (1 + length s.front) n 2 code w.0 in
-    meaning_of text n 2 code e.1 (first_error text n (refusal n code) IsOutOfRange s e.0 (w.1.0, may_stand s.front s.at s.before w.1.0 w.1.1, w.1.2))
+    meaning_of text n 2 code e.1 (first_error text n (refusal n code) IsOutOfRange s e.0 (w.1.0, may_follow s.front s.at s.before w.1.0 w.1.1, w.1.2))
 
 -- a text that is refused is no session's
 not_read : (text : List ℕ) (s : Session) (r : Refusal) → session_of text ≡ Err r → ¬ IsSession text s
@@ -125,7 +125,7 @@ form_back text n f =
     refused_by text n 1 HasNoForm f a.0 a.1 (step a.0 (1 + length f.front) f.line) refl (λ w h.
     elim (step-err a.0.place a.0.session (1 + length f.front) f.line w h) [
       | inl p ↦ sym p.0
-      | inr p ↦ absurd (f.why p.1.0 (may_stand f.front a.0 a.1 p.1.0 p.1.1) p.1.2)
+      | inr p ↦ absurd (f.why p.1.0 (may_follow f.front a.0 a.1 p.1.0 p.1.1) p.1.2)
     ])
 
 range_back : (text : List ℕ) (n : ℕ) → IsFirstError text n IsOutOfRange → session_of text ≡ Err (refusal n 2)

@@ -10,16 +10,16 @@ abbrev pub BeginSession : List (List ℕ) → Type 0
 BeginSession front = (text : List ℕ) × (s : Session) × (rest : List (List ℕ)) × IsSession text s × (lines_of text ≡ front ++ rest)
 
 -- the form may come after these lines: with some line of it they begin a session's text
-abbrev pub MayStand : List (List ℕ) → Form → Type 0
-MayStand front form = (line : List ℕ) × HasForm form line × BeginSession (front ++ line ∷ [])
+abbrev pub MayFollow : List (List ℕ) → Form → Type 0
+MayFollow front form = (line : List ℕ) × HasForm form line × BeginSession (front ++ line ∷ [])
 
 -- no form that may be there has these bytes
 abbrev pub HasNoForm : List (List ℕ) → List ℕ → Type 0
-HasNoForm front line = (form : Form) → MayStand front form → ¬ HasForm form line
+HasNoForm front line = (form : Form) → MayFollow front form → ¬ HasForm form line
 
 -- a form that may be there has these bytes, so all that is wrong is a number or a name
 abbrev pub IsOutOfRange : List (List ℕ) → List ℕ → Type 0
-IsOutOfRange front line = (form : Form) × MayStand front form × HasForm form line
+IsOutOfRange front line = (form : Form) × MayFollow front form × HasForm form line
 
 -- the lines before line n begin a session's text, with line n they do not, and Why holds of them and it
 pub record IsFirstError (text : List ℕ) (n : ℕ) (Why : List (List ℕ) → List ℕ → Type 0) : Type 0 where

@@ -12,11 +12,11 @@ use Rattle.kernel_model.proofs.KernelRecord.NotedInTurn.{notes-none, notes-then}
 use Rattle.ram_disc.specs.Disc.{Disc}
 use Rattle.kernel_calls.specs.CallAnswers.Made.{Leaves, Made, plain_answer}
 use Rattle.kernel_calls.specs.CallAnswers.Outside.{Outside, outside}
-use Rattle.kernel_model.specs.KernelRecord.Standing.{Standing, left_with, standing}
-use Rattle.kernel_boot.proofs.StandingKernels.{left-is}
+use Rattle.kernel_model.specs.KernelRecord.StoreWithLists.{StoreWithLists, left_with, store_with_lists}
+use Rattle.kernel_boot.proofs.StoresAfterCalls.{left-is}
 use Rattle.resident_tasks.specs.ResidentRequests.Requests.{RunsResident}
 use Rattle.shell.specs.ShellPrograms.ShellPacket.{CanPost, post_events, posted, request_words, requested}
-use Rattle.shell.specs.ShellPrograms.Standings.{RepresentsStanding}
+use Rattle.shell.specs.ShellPrograms.StoresWithLists.{RepresentsStoreWithLists}
 use Rattle.shell.proofs.ShellPrograms.SentRules.{posted-runs}
 use Rattle.kernel_model.specs.declared.kernel_record.numbers.TheConstants.{CONSOLE}
 use Rattle.shell.specs.DoneParts.{IsDone, IsReady, Start}
@@ -27,13 +27,13 @@ use Rattle.shell.proofs.RunningShell.{GoesOn, posted-running}
 -- ---- the store
 
 -- its words are those of the standing
-pub standing-is : {t : List ℕ} {tells : List ℕ → Type 0} {room : ℕ} {k : Standing} → RepresentsStanding t tells room k → standing t k.lists ≡ k
-standing-is {k = k} h = λ i. record { words = h.words i; lists = k.lists }
+pub store_with_lists-is : {t : List ℕ} {tells : List ℕ → Type 0} {room : ℕ} {k : StoreWithLists} → RepresentsStoreWithLists t tells room k → store_with_lists t k.lists ≡ k
+store_with_lists-is {k = k} h = λ i. record { words = h.words i; lists = k.lists }
 
 -- what a change leaves of a store that stands
-pub left-stands : {t : List ℕ} {tells : List ℕ → Type 0} {room : ℕ} {k : Standing} → RepresentsStanding t tells room k → (u : List ℕ) (told : List ℕ → Type 0) (after : ℕ) (l : Lists) (plain : Pairs)
-    → IsChanged t u l plain → Knows told l → after ≡ room → RepresentsStanding u told after (left_with k.words l plain)
-left-stands {t = t} {k = k} h u told after l plain x knows room_is =
+pub left-represents : {t : List ℕ} {tells : List ℕ → Type 0} {room : ℕ} {k : StoreWithLists} → RepresentsStoreWithLists t tells room k → (u : List ℕ) (told : List ℕ → Type 0) (after : ℕ) (l : Lists) (plain : Pairs)
+    → IsChanged t u l plain → Knows told l → after ≡ room → RepresentsStoreWithLists u told after (left_with k.words l plain)
+left-represents {t = t} {k = k} h u told after l plain x knows room_is =
     record {
       words = left-is t u l plain x ∙ ap (λ w. written (owned l) (written plain w)) h.words;
       keeper = record { lists = x.lists; knows = knows; enough = omega (arith, h.keeper.enough, x.size, room_is) };
@@ -50,7 +50,7 @@ pub done-shown : {b : Start} {t : List ℕ} {tells : List ℕ → Type 0} {room 
     → IsDone b t tells room now sh d fin x → (bytes seen : List ℕ) → seen ≡ now.shown ++ bytes → IsDone b t tells room (outside seen now.noted now.failed) sh d fin (shown bytes x)
 done-shown {b = b} {x = x} h bytes seen e =
     record {
-      stands = h.stands;
+      represents = h.represents;
       room = h.room;
       bytes = e ∙ (ap (λ z. z ++ bytes) h.bytes ∙ append_assoc b.outside.shown x.bytes bytes);
       notes = h.notes;
@@ -66,7 +66,7 @@ pub done-mode : {b : Start} {t : List ℕ} {tells : List ℕ → Type 0} {room :
     → IsDone b t tells room now sh d fin x → (m : Mode) (after : Shell) → after ≡ record sh { mode = m } → IsDone b t tells room now after d fin (in_mode m x)
 done-mode h m after e =
     record {
-      stands = h.stands;
+      represents = h.represents;
       room = h.room;
       bytes = h.bytes;
       notes = h.notes;
@@ -82,7 +82,7 @@ pub done-disc : {b : Start} {t : List ℕ} {tells : List ℕ → Type 0} {room :
     → IsDone b t tells room now sh d fin x → (after e : Disc) → after ≡ e → IsDone b t tells room now sh after fin (with_disc e x)
 done-disc h after e same =
     record {
-      stands = h.stands;
+      represents = h.represents;
       room = h.room;
       bytes = h.bytes;
       notes = h.notes;
@@ -95,12 +95,12 @@ done-disc h after e same =
 
 -- the store stands otherwise, and these events were noted
 pub done-then : {b : Start} {t : List ℕ} {tells : List ℕ → Type 0} {room : ℕ} {now : Outside} {sh : Shell} {d : Disc} {fin : Bool} {x : ShellTurn}
-    → IsDone b t tells room now sh d fin x → {u : List ℕ} {told : List ℕ → Type 0} {after : ℕ} {k : Standing} → RepresentsStanding u told after k → after ≡ room
+    → IsDone b t tells room now sh d fin x → {u : List ℕ} {told : List ℕ → Type 0} {after : ℕ} {k : StoreWithLists} → RepresentsStoreWithLists u told after k → after ≡ room
     → (noted : Option (List KernelEvent)) (failed : Bool) (events : List KernelEvent) → NotesAll now.noted noted now.failed failed events
-    → RunsResident k.lists → k.lists.running ≡ x.standing.lists.running → IsDone b u told after (outside now.shown noted failed) sh d fin (and_then k events x)
-done-then {b = b} {now = now} {x = x} h stands room_is noted failed events notes runs still =
+    → RunsResident k.lists → k.lists.running ≡ x.store.lists.running → IsDone b u told after (outside now.shown noted failed) sh d fin (and_then k events x)
+done-then {b = b} {now = now} {x = x} h represents room_is noted failed events notes runs still =
     record {
-      stands = stands;
+      represents = represents;
       room = room_is ∙ h.room;
       bytes = h.bytes;
       notes = notes-then b.outside.noted now.noted noted b.outside.failed now.failed failed x.events events h.notes notes;
@@ -113,9 +113,9 @@ done-then {b = b} {now = now} {x = x} h stands room_is noted failed events notes
 
 -- and nothing was noted
 pub done-quietly : {b : Start} {t : List ℕ} {tells : List ℕ → Type 0} {room : ℕ} {now : Outside} {sh : Shell} {d : Disc} {fin : Bool} {x : ShellTurn}
-    → IsDone b t tells room now sh d fin x → {u : List ℕ} {told : List ℕ → Type 0} {after : ℕ} {k : Standing} → RepresentsStanding u told after k → after ≡ room
-    → RunsResident k.lists → k.lists.running ≡ x.standing.lists.running → IsDone b u told after now sh d fin (and_then k [] x)
-done-quietly {now = now} h stands room_is runs still = done-then h stands room_is now.noted now.failed [] (notes-none now.noted now.failed) runs still
+    → IsDone b t tells room now sh d fin x → {u : List ℕ} {told : List ℕ → Type 0} {after : ℕ} {k : StoreWithLists} → RepresentsStoreWithLists u told after k → after ≡ room
+    → RunsResident k.lists → k.lists.running ≡ x.store.lists.running → IsDone b u told after now sh d fin (and_then k [] x)
+done-quietly {now = now} h represents room_is runs still = done-then h represents room_is now.noted now.failed [] (notes-none now.noted now.failed) runs still
 
 -- ---- the shell has its packet
 
@@ -129,39 +129,39 @@ ready-disc h after e same = record { done = done-disc h.done after e same; packe
 
 -- it may go to a task that is there
 pub can-post : {b : Start} {t : List ℕ} {tells : List ℕ → Type 0} {room : ℕ} {now : Outside} {sh : Shell} {d : Disc} {x : ShellTurn}
-    → IsReady b t tells room now sh d x → (to : ℕ) → has_task to x.standing.lists.tasks ≡ true → CanPost x.standing.lists to
+    → IsReady b t tells room now sh d x → (to : ℕ) → has_task to x.store.lists.tasks ≡ true → CanPost x.store.lists to
 can-post h to there = record { packet = h.packet; there = there }
 
 -- the console is there
 pub console-there : {b : Start} {t : List ℕ} {tells : List ℕ → Type 0} {room : ℕ} {now : Outside} {sh : Shell} {d : Disc} {x : ShellTurn}
-    → IsReady b t tells room now sh d x → has_task CONSOLE x.standing.lists.tasks ≡ true
-console-there h = (let v = h.done.stands.keeper.lists.valid.tasks in v.console ∙ sym v.shell ∙ h.packet.shell)
+    → IsReady b t tells room now sh d x → has_task CONSOLE x.store.lists.tasks ≡ true
+console-there h = (let v = h.done.represents.keeper.lists.valid.tasks in v.console ∙ sym v.shell ∙ h.packet.shell)
 
 pub done-posted : {b : Start} {t : List ℕ} {tells : List ℕ → Type 0} {room : ℕ} {now : Outside} {sh : Shell} {d : Disc} {x : ShellTurn}
-    → IsReady b t tells room now sh d x → (to : ℕ) → to ≤ 63 → {u : List ℕ} {told : List ℕ → Type 0} {after : ℕ} → RepresentsStanding u told after (posted to (standing t x.standing.lists)) → after ≡ room
+    → IsReady b t tells room now sh d x → (to : ℕ) → to ≤ 63 → {u : List ℕ} {told : List ℕ → Type 0} {after : ℕ} → RepresentsStoreWithLists u told after (posted to (store_with_lists t x.store.lists)) → after ≡ room
     → (noted : Option (List KernelEvent)) (failed : Bool) → NotesAll now.noted noted now.failed failed (post_events to)
-    → IsDone b u told after (outside now.shown noted failed) sh d false (and_then (posted to x.standing) (post_events to) x)
-done-posted {x = x} h to low {u = u} {told = told} {after = after} stands room_is noted failed notes =
-    done-then h.done (subst (λ k. RepresentsStanding u told after (posted to k)) (standing-is h.done.stands) stands) room_is noted failed (post_events to) notes
-    (posted-runs to x.standing low h.done.runs) (posted-running to x.standing low)
+    → IsDone b u told after (outside now.shown noted failed) sh d false (and_then (posted to x.store) (post_events to) x)
+done-posted {x = x} h to low {u = u} {told = told} {after = after} represents room_is noted failed notes =
+    done-then h.done (subst (λ k. RepresentsStoreWithLists u told after (posted to k)) (store_with_lists-is h.done.represents) represents) room_is noted failed (post_events to) notes
+    (posted-runs to x.store low h.done.runs) (posted-running to x.store low)
 
 pub done-sent : {b : Start} {t : List ℕ} {tells : List ℕ → Type 0} {room : ℕ} {now : Outside} {sh : Shell} {d : Disc} {x : ShellTurn}
-    → IsReady b t tells room now sh d x → (to kind : ℕ) → to ≤ 63 → {u : List ℕ} {told : List ℕ → Type 0} {after : ℕ} → RepresentsStanding u told after (requested to kind (standing t x.standing.lists)) → after ≡ room
+    → IsReady b t tells room now sh d x → (to kind : ℕ) → to ≤ 63 → {u : List ℕ} {told : List ℕ → Type 0} {after : ℕ} → RepresentsStoreWithLists u told after (requested to kind (store_with_lists t x.store.lists)) → after ≡ room
     → (noted : Option (List KernelEvent)) (failed : Bool) → NotesAll now.noted noted now.failed failed (post_events to)
     → IsDone b u told after (outside now.shown noted failed) sh d false (with_packet_sent to kind x)
-done-sent {x = x} h to kind low {u = u} {told = told} {after = after} stands room_is noted failed notes =
-    done-then h.done (subst (λ k. RepresentsStanding u told after (requested to kind k)) (standing-is h.done.stands) stands) room_is noted failed (post_events to) notes
-    (posted-runs to (standing (written (request_words kind) x.standing.words) x.standing.lists) low h.done.runs) (posted-running to (standing (written (request_words kind) x.standing.words) x.standing.lists) low)
+done-sent {x = x} h to kind low {u = u} {told = told} {after = after} represents room_is noted failed notes =
+    done-then h.done (subst (λ k. RepresentsStoreWithLists u told after (requested to kind k)) (store_with_lists-is h.done.represents) represents) room_is noted failed (post_events to) notes
+    (posted-runs to (store_with_lists (written (request_words kind) x.store.words) x.store.lists) low h.done.runs) (posted-running to (store_with_lists (written (request_words kind) x.store.words) x.store.lists) low)
 
 -- ---- a call about a task
 
 pub ready-called : {b : Start} {t : List ℕ} {tells : List ℕ → Type 0} {room : ℕ} {now : Outside} {sh : Shell} {d : Disc} {x : ShellTurn}
-    → IsReady b t tells room now sh d x → (u : List ℕ) (answer : Result ℕ ℕ) (m : Made) → Leaves t u answer m → ((a : ℕ) → owners a (owned m.lists) ≡ owners a (owned x.standing.lists)) → GoesOn x.standing.lists m
+    → IsReady b t tells room now sh d x → (u : List ℕ) (answer : Result ℕ ℕ) (m : Made) → Leaves t u answer m → ((a : ℕ) → owners a (owned m.lists) ≡ owners a (owned x.store.lists)) → GoesOn x.store.lists m
     → IsReady b u tells room now sh d (called m x)
 ready-called {tells = tells} {room = room} {now = now} {x = x} h u answer m leaves same goes =
     record {
       done =
-          done-then h.done (left-stands h.done.stands u tells room m.lists m.plain leaves.lists (knows-same tells x.standing.lists m.lists same h.done.stands.keeper.knows) refl) refl now.noted now.failed m.events
+          done-then h.done (left-represents h.done.represents u tells room m.lists m.plain leaves.lists (knows-same tells x.store.lists m.lists same h.done.represents.keeper.knows) refl) refl now.noted now.failed m.events
           (subst (NotesAll now.noted now.noted now.failed now.failed) (sym goes.events) (notes-none now.noted now.failed)) goes.runs goes.running;
       packet = record { shell = ap (λ i. has_task i m.lists.tasks) (sym (goes.running ∙ h.done.is)) ∙ goes.runs.there; words = λ a low high. same a ∙ h.packet.words a low high };
     }

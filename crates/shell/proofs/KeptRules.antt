@@ -8,7 +8,7 @@ use Rattle.kernel_lists.specs.LinkedList.Places.{insert_after, without_first}
 use Rattle.word_store.proofs.Elements.{all-append, find-passes}
 use Rattle.word_store.specs.declared.registers.Regs.{Regs}
 use Rattle.kernel_lists.specs.PacketQueue.QueueWords.{QueuedPacket}
-use Rattle.kernel_model.specs.KernelRecord.Between.{FaultsStand, Tells, is_unreported}
+use Rattle.kernel_model.specs.KernelRecord.Between.{AreValidFaults, Tells, is_unreported}
 use Rattle.kernel_model.specs.KernelRecord.Changes.{with_queue, with_task, with_tasks, work_of}
 use Rattle.kernel_model.specs.KernelRecord.Kernel.{Shell}
 use Rattle.kernel_model.specs.KernelRecord.Lists.{Lists, has_task}
@@ -17,12 +17,12 @@ use Rattle.kernel_model.specs.KernelRecord.Residents.{fault_packet}
 use Rattle.kernel_model.specs.KernelRecord.Running.{RunsAs}
 use Rattle.kernel_model.specs.KernelRecord.Task.{Task, is_guest_id}
 use Rattle.kernel_model.specs.KernelRecord.ValidLists.{AreValid}
-use Rattle.kernel_model.specs.KernelRecord.ValidQueues.{MayStand}
+use Rattle.kernel_model.specs.KernelRecord.ValidQueues.{IsValidPacket}
 use Rattle.kernel_model.specs.KernelRecord.ValidQueues.Place.{Work}
 use Rattle.kernel_model.specs.KernelRecord.ValidTasks.{runs}
 use Rattle.kernel_model.proofs.KernelRecord.AllThings.{all-inserted}
 use Rattle.kernel_model.proofs.KernelRecord.EachMember.{all-each}
-use Rattle.kernel_model.proofs.KernelRecord.QueuePlaces.{place-stands}
+use Rattle.kernel_model.proofs.KernelRecord.QueuePlaces.{valid-at-place}
 use Rattle.ram_disc.specs.Disc.{Disc}
 use Rattle.kernel_model.specs.KernelDispatch.Dispatch.{CanDispatch}
 use Rattle.kernel_calls.specs.CallAnswers.Guests.{guest_tests}
@@ -33,7 +33,7 @@ use Rattle.kernel_calls.specs.TaskCalls.ChangePri.{change_pri, moved, priority_t
 use Rattle.kernel_calls.specs.TaskCalls.HoldTask.{held, hold, hold_tests}
 use Rattle.kernel_calls.specs.TaskCalls.ReleaseTask.{release, release_tests, released}
 use Rattle.kernel_calls.specs.TaskCalls.SetFlags.{flagged, set_flags}
-use Rattle.kernel_model.specs.KernelRecord.Standing.{Standing, standing}
+use Rattle.kernel_model.specs.KernelRecord.StoreWithLists.{StoreWithLists, store_with_lists}
 use Rattle.resident_tasks.specs.ResidentRequests.Answers.{answered_packet, finished, finished_by, returned}
 use Rattle.resident_tasks.specs.ResidentRequests.Requests.{RunsResident, taken, taken_from, work}
 use Rattle.resident_tasks.specs.declared.resident_requests.requests.Request.{Request}
@@ -144,8 +144,8 @@ module _ (l : Lists) where
         at_end = end-keeps (Rest l) rest-changes;
       }
 
-pub turn-rest : (s : List ℕ) (l : Lists) (sh : Shell) (d : Disc) → Rest l (shell_turn s l sh d).standing.lists
-turn-rest s l sh d = turn-keeps (Rest l) (Rest l) (rest-allows l) s l sh d refl (cleared-residents (standing s l)).rest
+pub turn-rest : (s : List ℕ) (l : Lists) (sh : Shell) (d : Disc) → Rest l (shell_turn s l sh d).store.lists
+turn-rest s l sh d = turn-keeps (Rest l) (Rest l) (rest-allows l) s l sh d refl (cleared-residents (store_with_lists s l)).rest
 
 -- ---- the task that runs alone has the field of one that runs
 
@@ -192,13 +192,13 @@ alone-allows =
       at_end = end-keeps ResidentAlone alone-changes;
     }
 
-pub turn-alone : (s : List ℕ) (l : Lists) (sh : Shell) (d : Disc) → ResidentAlone l → ResidentAlone (shell_turn s l sh d).standing.lists
-turn-alone s l sh d r = turn-keeps ResidentAlone ResidentAlone alone-allows s l sh d r (cleared-alone (standing s l) r)
+pub turn-alone : (s : List ℕ) (l : Lists) (sh : Shell) (d : Disc) → ResidentAlone l → ResidentAlone (shell_turn s l sh d).store.lists
+turn-alone s l sh d r = turn-keeps ResidentAlone ResidentAlone alone-allows s l sh d r (cleared-alone (store_with_lists s l) r)
 
 -- a dispatch may follow
-pub turn-dispatches : (s : List ℕ) (l : Lists) (sh : Shell) (d : Disc) (r : Regs) → RunsResident l → CanDispatch l r → CanDispatch (shell_turn s l sh d).standing.lists r
+pub turn-dispatches : (s : List ℕ) (l : Lists) (sh : Shell) (d : Disc) (r : Regs) → RunsResident l → CanDispatch l r → CanDispatch (shell_turn s l sh d).store.lists r
 turn-dispatches s l sh d r runs c =
-    let still : (shell_turn s l sh d).standing.lists.running ≡ l.running = ap (λ (m : Lists). m.running) (turn-rest s l sh d) in
+    let still : (shell_turn s l sh d).store.lists.running ≡ l.running = ap (λ (m : Lists). m.running) (turn-rest s l sh d) in
     record { field = (turn-alone s l sh d (record { resident = runs.resident; field = c.field })).field; registers = record { byte = c.registers.byte; idle = λ e. c.registers.idle (ap is_guest_id (sym still) ∙ e) } }
 
 -- ---- the fault packet waits where some fault was not reported yet
@@ -235,10 +235,10 @@ no-work (t ∷ ts) none = on (eqb t.id 2) none (no-work ts)
     on true e more = cc
     on false e more = more e
 
-absent : (l : Lists) → has_task 2 l.tasks ≡ false → FaultsStand l
+absent : (l : Lists) → has_task 2 l.tasks ≡ false → AreValidFaults l
 absent l none = record { waits = λ there. absurd (false≢true (sym none ∙ there)); sender = subst (AllByRecursion (Tells l.tasks)) (sym (no-work l.tasks none)) tt }
 
-faults-one : (l : Lists) (n : ℕ) (f : Task → Task) → IsLight f → FaultsStand l → FaultsStand (with_task n f l)
+faults-one : (l : Lists) (n : ℕ) (f : Task → Task) → IsLight f → AreValidFaults l → AreValidFaults (with_task n f l)
 faults-one l n f same h =
     faults-same l (with_task n f l)
     (record {
@@ -250,7 +250,7 @@ faults-one l n f same h =
       work = work-changed n f (λ t. (same.id t, same.queue t)) 2 l.tasks;
     }) h
 
-faults-move : (l : Lists) (pri : ℕ) (t : Task) → is_guest_id t.id ≡ true → find (λ u. eqb u.id t.id) l.tasks ≡ Some t → FaultsStand l → FaultsStand (with_tasks (moved_chain pri t l.tasks) l)
+faults-move : (l : Lists) (pri : ℕ) (t : Task) → is_guest_id t.id ≡ true → find (λ u. eqb u.id t.id) l.tasks ≡ Some t → AreValidFaults l → AreValidFaults (with_tasks (moved_chain pri t l.tasks) l)
 faults-move l pri t guest is h =
     faults-same l (with_tasks (moved_chain pri t l.tasks) l)
     (record {
@@ -265,18 +265,18 @@ faults-move l pri t guest is h =
 
 -- none of the shell's packets is the fault packet
 record Begins (l : Lists) : Type 0 where
-  pub faults : FaultsStand l
+  pub faults : AreValidFaults l
   pub others : has_task 2 l.tasks ≡ true → AllByRecursion (λ p. eqb p.address fault_packet ≡ false) (work l)
   pub is : l.running ≡ SHELL
 
-waits-changes : AllowsTasks FaultsStand
+waits-changes : AllowsTasks AreValidFaults
 waits-changes =
     record {
       one = faults-one;
       move = faults-move;
     }
 
-waits-taken : (l : Lists) (ps : List QueuedPacket) → l.running ≡ SHELL → FaultsStand l → FaultsStand (taken_from ps l).lists
+waits-taken : (l : Lists) (ps : List QueuedPacket) → l.running ≡ SHELL → AreValidFaults l → AreValidFaults (taken_from ps l).lists
 waits-taken l [] is h = h
 waits-taken l (p ∷ ps) is h = queue-faults l l.running ps (λ e. absurd (omega (arith, e, is))) h
 
@@ -284,7 +284,7 @@ taken-has : (l : Lists) (ps : List QueuedPacket) → has_task 2 (taken_from ps l
 taken-has l [] = refl
 taken-has l (p ∷ ps) = any-changed l.running (λ t. record t { queue = ps }) (λ t. eqb t.id 2) (λ t. refl) l.tasks
 
-waits-refused : (l : Lists) (r : Request) (p : QueuedPacket) (ps : List QueuedPacket) → work l ≡ p ∷ ps → r.packet ≡ p.address → Begins l → FaultsStand (returned (taken l).lists r (Err 31)).lists
+waits-refused : (l : Lists) (r : Request) (p : QueuedPacket) (ps : List QueuedPacket) → work l ≡ p ∷ ps → r.packet ≡ p.address → Begins l → AreValidFaults (returned (taken l).lists r (Err 31)).lists
 waits-refused l r p ps is same h = on (has_task 2 l.tasks) refl
   where
     m : Lists
@@ -296,10 +296,10 @@ waits-refused l r p ps is same h = on (has_task 2 l.tasks) refl
     qs : List QueuedPacket
     qs = work_of r.sender m.tasks ++ q ∷ []
 
-    before : FaultsStand m
+    before : AreValidFaults m
     before = waits-taken l (work l) h.is h.faults
 
-    on : (b : Bool) → has_task 2 l.tasks ≡ b → FaultsStand (with_queue (Work r.sender) qs m)
+    on : (b : Bool) → has_task 2 l.tasks ≡ b → AreValidFaults (with_queue (Work r.sender) qs m)
     on true there =
         queue-faults m r.sender qs
         (λ e.
@@ -309,7 +309,7 @@ waits-refused l r p ps is same h = on (has_task 2 l.tasks) refl
         absent (with_queue (Work r.sender) qs m)
         (any-changed r.sender (λ t. record t { queue = qs }) (λ t. eqb t.id 2) (λ t. refl) m.tasks ∙ taken-has l (work l) ∙ none)
 
-waits-allows : Allows Begins FaultsStand
+waits-allows : Allows Begins AreValidFaults
 waits-allows =
     record {
       at_taking = λ l h. waits-taken l (work l) h.is h.faults;
@@ -317,30 +317,30 @@ waits-allows =
       at_sending = posted-faults;
       at_start = started-faults;
       at_beginning = λ id j guest h. begun-faults id j h;
-      at_hold = hold-keeps FaultsStand waits-changes;
-      at_release = release-keeps FaultsStand waits-changes;
-      at_priority = priority-keeps FaultsStand waits-changes;
-      at_flags = flags-keeps FaultsStand waits-changes;
-      at_end = end-keeps FaultsStand waits-changes;
+      at_hold = hold-keeps AreValidFaults waits-changes;
+      at_release = release-keeps AreValidFaults waits-changes;
+      at_priority = priority-keeps AreValidFaults waits-changes;
+      at_flags = flags-keeps AreValidFaults waits-changes;
+      at_end = end-keeps AreValidFaults waits-changes;
     }
 
 -- the fault packet is none of the shell's
 none-fault : (l : Lists) → AreValid l → RunsResident l → l.running ≡ SHELL → has_task 2 l.tasks ≡ true → AllByRecursion (λ p. eqb p.address fault_packet ≡ false) (work l)
-none-fault l v r is there = all-each (MayStand l (Work l.running)) (λ p. eqb p.address fault_packet ≡ false) each (work l) (place-stands l (Work l.running) v r.there)
+none-fault l v r is there = all-each (IsValidPacket l (Work l.running)) (λ p. eqb p.address fault_packet ≡ false) each (work l) (valid-at-place l (Work l.running) v r.there)
   where
-    each : (p : QueuedPacket) → MayStand l (Work l.running) p → eqb p.address fault_packet ≡ false
+    each : (p : QueuedPacket) → IsValidPacket l (Work l.running) p → eqb p.address fault_packet ≡ false
     each p may = on (eqb p.address fault_packet) refl
       where
         on : (b : Bool) → eqb p.address fault_packet ≡ b → b ≡ false
         on false e = refl
         on true e = (let place = (may.fault (λ i. there i && e i)).place in let two : l.running ≡ 2 = cc in absurd (omega (arith, two, is)))
 
-pub turn-faults : (s : List ℕ) (l : Lists) (sh : Shell) (d : Disc) → AreValid l → RunsResident l → l.running ≡ SHELL → FaultsStand l → FaultsStand (shell_turn s l sh d).standing.lists
+pub turn-faults : (s : List ℕ) (l : Lists) (sh : Shell) (d : Disc) → AreValid l → RunsResident l → l.running ≡ SHELL → AreValidFaults l → AreValidFaults (shell_turn s l sh d).store.lists
 turn-faults s l sh d v r is h =
-    let start : Standing = standing s l in
+    let start : StoreWithLists = store_with_lists s l in
     let kept = cleared-residents start in
     let still : (cleared start).lists.running ≡ l.running = ap (λ (m : Lists). m.running) kept.rest in
-    turn-keeps Begins FaultsStand waits-allows s l sh d h
+    turn-keeps Begins AreValidFaults waits-allows s l sh d h
     (record {
       faults = cleared-faults start v h;
       others = λ there.

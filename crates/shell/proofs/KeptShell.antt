@@ -13,7 +13,7 @@ use Rattle.kernel_calls.specs.TaskCalls.ChangePri.{change_pri}
 use Rattle.kernel_calls.specs.TaskCalls.HoldTask.{hold}
 use Rattle.kernel_calls.specs.TaskCalls.ReleaseTask.{release}
 use Rattle.kernel_calls.specs.TaskCalls.SetFlags.{set_flags}
-use Rattle.kernel_model.specs.KernelRecord.Standing.{left_with, standing}
+use Rattle.kernel_model.specs.KernelRecord.StoreWithLists.{left_with, store_with_lists}
 use Rattle.resident_tasks.specs.ResidentRequests.Answers.{finished}
 use Rattle.resident_tasks.specs.ResidentRequests.Requests.{first_request, request_at, taken_from, work}
 use Rattle.resident_tasks.specs.declared.resident_requests.requests.Request.{Request}
@@ -156,30 +156,30 @@ module _ (v : ℕ) (w : List ℕ) where
   -- ---- programs
 
   run-sound : (name : List ℕ) (priority : Option ℕ) (x : ShellTurn) → IsClosed w x → IsSound v w (run name priority x)
-  run-sound name priority x h = on (start_program x.disc name (Ok tt) (run_priority priority) x.standing).answer
+  run-sound name priority x h = on (start_program x.disc name (Ok tt) (run_priority priority) x.store).answer
     where
       y : ShellTurn
-      y = with_started (start_program x.disc name (Ok tt) (run_priority priority) x.standing) x
+      y = with_started (start_program x.disc name (Ok tt) (run_priority priority) x.store) x
 
       on : (o : Result ℕ ℕ) → IsSound v w (after_run o y)
       on (Ok id) = prompted-sound (shown (task_number_line id) (with_program_begun id y)) (same-closed x (shown (task_number_line id) (with_program_begun id y)) refl refl h)
       on (Err code) = refused-sound code y (same-closed x y refl refl h)
 
-  start-sound : (name : List ℕ) (rest : Result (Unit {0}) ℕ) (x : ShellTurn) → x.standing.lists.version ≡ v → IsClosed w x → IsSound v w (start name rest x)
-  start-sound name rest x version h = on (start_program x.disc name rest AboveShell x.standing).answer refl
+  start-sound : (name : List ℕ) (rest : Result (Unit {0}) ℕ) (x : ShellTurn) → x.store.lists.version ≡ v → IsClosed w x → IsSound v w (start name rest x)
+  start-sound name rest x version h = on (start_program x.disc name rest AboveShell x.store).answer refl
     where
       y : ShellTurn
-      y = with_started (start_program x.disc name rest AboveShell x.standing) x
+      y = with_started (start_program x.disc name rest AboveShell x.store) x
 
-      on : (o : Result ℕ ℕ) → (start_program x.disc name rest AboveShell x.standing).answer ≡ o → IsSound v w (after_start o y)
+      on : (o : Result ℕ ℕ) → (start_program x.disc name rest AboveShell x.store).answer ≡ o → IsSound v w (after_start o y)
       on (Ok id) e =
-          let there = started-there x.disc name rest AboveShell x.standing id e in
+          let there = started-there x.disc name rest AboveShell x.store id e in
           record { line = h.still.line; typing = h.closed; awaited = (there.low, subst (λ z. id ≤ highest_id_of z) version there.high) }
       on (Err code) e = refused-sound code y (same-closed x y refl refl h)
 
   -- ---- commands
 
-  executed-sound : (c : Command) (x : ShellTurn) → x.standing.lists.version ≡ v → IsSound v w x → IsClosed w x → IsSound v w (executed c x)
+  executed-sound : (c : Command) (x : ShellTurn) → x.store.lists.version ≡ v → IsSound v w x → IsClosed w x → IsSound v w (executed c x)
   executed-sound Nothing x version s h = prompted-sound x h
   executed-sound («Type» name) x version s h = file-sound name x h
   executed-sound Examine x version s h = prompted-sound (shown (file_lines x.disc) x) (same-closed x (shown (file_lines x.disc) x) refl refl h)
@@ -189,20 +189,20 @@ module _ (v : ℕ) (w : List ℕ) where
   executed-sound (Rename from to) x version s h =
       disc-sound (after_rename x.disc from to) x
       (kept-streams x.disc ((has_file x.disc from, 41) ∷ (not (has_file x.disc to), 42) ∷ (not (is_used x.disc from), 47) ∷ []) tt (record x.disc { files = renamed x.disc from to }) refl) h
-  executed-sound Status x version s h = prompted-sound (shown (task_lines x.standing.lists.tasks) x) (same-closed x (shown (task_lines x.standing.lists.tasks) x) refl refl h)
-  executed-sound Map x version s h = prompted-sound (shown (block_line x.standing.lists.blocks) x) (same-closed x (shown (block_line x.standing.lists.blocks) x) refl refl h)
-  executed-sound (Hold task) x version s h = answered-sound (hold x.standing.lists task).answer (called (hold x.standing.lists task) x) (same-closed x (called (hold x.standing.lists task) x) refl refl h)
-  executed-sound (Release task) x version s h = answered-sound (release x.standing.lists task).answer (called (release x.standing.lists task) x) (same-closed x (called (release x.standing.lists task) x) refl refl h)
+  executed-sound Status x version s h = prompted-sound (shown (task_lines x.store.lists.tasks) x) (same-closed x (shown (task_lines x.store.lists.tasks) x) refl refl h)
+  executed-sound Map x version s h = prompted-sound (shown (block_line x.store.lists.blocks) x) (same-closed x (shown (block_line x.store.lists.blocks) x) refl refl h)
+  executed-sound (Hold task) x version s h = answered-sound (hold x.store.lists task).answer (called (hold x.store.lists task) x) (same-closed x (called (hold x.store.lists task) x) refl refl h)
+  executed-sound (Release task) x version s h = answered-sound (release x.store.lists task).answer (called (release x.store.lists task) x) (same-closed x (called (release x.store.lists task) x) refl refl h)
   executed-sound (ChangePriority task priority) x version s h =
-      answered-sound (change_pri x.standing.lists task priority).answer (called (change_pri x.standing.lists task priority) x)
-      (same-closed x (called (change_pri x.standing.lists task priority) x) refl refl h)
+      answered-sound (change_pri x.store.lists task priority).answer (called (change_pri x.store.lists task priority) x)
+      (same-closed x (called (change_pri x.store.lists task priority) x) refl refl h)
   executed-sound (Break task flags) x version s h =
-      answered-sound (set_flags x.standing.lists task flags).answer (called (set_flags x.standing.lists task flags) x) (same-closed x (called (set_flags x.standing.lists task flags) x) refl refl h)
+      answered-sound (set_flags x.store.lists task flags).answer (called (set_flags x.store.lists task flags) x) (same-closed x (called (set_flags x.store.lists task flags) x) refl refl h)
   executed-sound (Run program priority) x version s h = run-sound program priority x h
   executed-sound Finish x version s h = record { line = s.line; typing = s.typing; awaited = s.awaited }
   executed-sound (Start program rest) x version s h = start-sound program rest x version h
 
-  line-sound : (o : Result Command ℕ) (x : ShellTurn) → x.standing.lists.version ≡ v → IsSound v w x → IsClosed w x → IsSound v w (executed_if o x)
+  line-sound : (o : Result Command ℕ) (x : ShellTurn) → x.store.lists.version ≡ v → IsSound v w x → IsClosed w x → IsSound v w (executed_if o x)
   line-sound (Ok c) x version s h = executed-sound c x version s h
   line-sound (Err code) x version s h = refused-sound code x h
 
@@ -211,7 +211,7 @@ module _ (v : ℕ) (w : List ℕ) where
   still-closed : (x : ShellTurn) (m : Mode) → x.shell.mode ≡ m → is_typing m ≡ false → HasLine w x → IsSound v w x → IsClosed w x
   still-closed x m is other h s = record { still = h; closed = s.typing ∙ ap is_typing is ∙ other }
 
-  own-sound : (m : Mode) (r : Request) (x : ShellTurn) → x.shell.mode ≡ m → x.standing.lists.version ≡ v → HasLine w x → IsSound v w x → IsSound v w (treated_in m r x)
+  own-sound : (m : Mode) (r : Request) (x : ShellTurn) → x.shell.mode ≡ m → x.store.lists.version ≡ v → HasLine w x → IsSound v w x → IsSound v w (treated_in m r x)
   own-sound Prompt r x is version h s = prompted-sound x (still-closed x Prompt is refl h s)
   own-sound Reading r x is version h s = on (eqb r.sender CONSOLE)
     where
@@ -225,34 +225,34 @@ module _ (v : ℕ) (w : List ℕ) where
       (let y = shown (return_code (result_of x)) x in prompted-sound y (same-closed x y refl refl (still-closed x (Waiting id) is refl h s)))
   own-sound Typing r x is version h s = typed-sound x h
 
-  first-sound : (x : ShellTurn) → x.standing.lists.version ≡ v → HasLine w x → IsSound v w x → IsSound v w (first_treated x)
-  first-sound x version h s = on (work x.standing.lists)
+  first-sound : (x : ShellTurn) → x.store.lists.version ≡ v → HasLine w x → IsSound v w x → IsSound v w (first_treated x)
+  first-sound x version h s = on (work x.store.lists)
     where
       y : ShellTurn
       y = packet_taken x
 
-      taken-version : (ps : List QueuedPacket) → (taken_from ps x.standing.lists).lists.version ≡ v
+      taken-version : (ps : List QueuedPacket) → (taken_from ps x.store.lists).lists.version ≡ v
       taken-version [] = version
       taken-version (p ∷ ps) = version
 
       sound : IsSound v w y
       sound = record { line = s.line; typing = s.typing; awaited = s.awaited }
 
-      on : (ps : List QueuedPacket) → IsSound v w (treated (first_request y.standing.words ps) y)
+      on : (ps : List QueuedPacket) → IsSound v w (treated (first_request y.store.words ps) y)
       on [] = sound
       on (q ∷ qs) = either (eqb q.address SHELL_PACKET)
         where
           r : Request
-          r = request_at y.standing.words q.address
+          r = request_at y.store.words q.address
 
           either : (b : Bool) → IsSound v w (cond b (treated_in y.shell.mode r y) (returned_unknown r y))
-          either true = own-sound y.shell.mode r y refl (taken-version (work x.standing.lists)) (record { line = h.line; streams = h.streams }) sound
+          either true = own-sound y.shell.mode r y refl (taken-version (work x.store.lists)) (record { line = h.line; streams = h.streams }) sound
           either false = record { line = s.line; typing = s.typing; awaited = s.awaited }
 
   ended-sound : (x : ShellTurn) → IsSound v w x → IsSound v w (ended x)
   ended-sound x s = on x.finished
     where
-      on : (b : Bool) → IsSound v w (cond b x (and_then (left_with x.standing.words (finished x.standing.lists) []) [] x))
+      on : (b : Bool) → IsSound v w (cond b x (and_then (left_with x.store.words (finished x.store.lists) []) [] x))
       on true = s
       on false = record { line = s.line; typing = s.typing; awaited = s.awaited }
 
@@ -273,5 +273,5 @@ turn-sound words l sh d many typing awaited = on (work l)
     on [] = ended-sound l.version sh.line x sound
     on (p ∷ ps) =
         ended-sound l.version sh.line (first_treated (with_cleared x))
-        (first-sound l.version sh.line (with_cleared x) (ap (λ (m : Lists). m.version) (cleared-residents (standing words l)).rest) (record { line = refl; streams = many })
+        (first-sound l.version sh.line (with_cleared x) (ap (λ (m : Lists). m.version) (cleared-residents (store_with_lists words l)).rest) (record { line = refl; streams = many })
         (record { line = refl; typing = typing; awaited = awaited }))

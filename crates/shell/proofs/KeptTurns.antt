@@ -14,7 +14,7 @@ use Rattle.kernel_calls.specs.TaskCalls.ChangePri.{change_pri}
 use Rattle.kernel_calls.specs.TaskCalls.HoldTask.{hold}
 use Rattle.kernel_calls.specs.TaskCalls.ReleaseTask.{release}
 use Rattle.kernel_calls.specs.TaskCalls.SetFlags.{set_flags}
-use Rattle.kernel_model.specs.KernelRecord.Standing.{Standing, left_with, standing}
+use Rattle.kernel_model.specs.KernelRecord.StoreWithLists.{StoreWithLists, left_with, store_with_lists}
 use Rattle.resident_tasks.specs.ResidentRequests.Answers.{finished, returned}
 use Rattle.resident_tasks.specs.ResidentRequests.Requests.{first_request, request_at, taken, work}
 use Rattle.resident_tasks.specs.declared.resident_requests.requests.Request.{Request}
@@ -44,9 +44,9 @@ use Rattle.shell.specs.TypedFiles.{goes_on, is_typed, opened, typed, typed_if, w
 pub record Allows (Q P : Lists → Type 0) : Type 0 where
   pub at_taking : (l : Lists) → Q l → P (taken l).lists
   pub at_refusal : (l : Lists) (r : Request) (p : QueuedPacket) (ps : List QueuedPacket) → work l ≡ p ∷ ps → r.packet ≡ p.address → Q l → P (returned (taken l).lists r (Err 31)).lists
-  pub at_sending : (to : ℕ) (k : Standing) → to ≤ 63 → P k.lists → P (posted to k).lists
-  pub at_start : (d : Disc) (name : List ℕ) (rest : Result (Unit {0}) ℕ) (pri : Priority) (k : Standing) → P k.lists → P (start_program d name rest pri k).left.lists
-  pub at_beginning : (id : ℕ) (k : Standing) → is_guest_id id ≡ true → P k.lists → P (begun id k).lists
+  pub at_sending : (to : ℕ) (k : StoreWithLists) → to ≤ 63 → P k.lists → P (posted to k).lists
+  pub at_start : (d : Disc) (name : List ℕ) (rest : Result (Unit {0}) ℕ) (pri : Priority) (k : StoreWithLists) → P k.lists → P (start_program d name rest pri k).left.lists
+  pub at_beginning : (id : ℕ) (k : StoreWithLists) → is_guest_id id ≡ true → P k.lists → P (begun id k).lists
   pub at_hold : (l : Lists) (id : ℕ) → P l → P (hold l id).lists
   pub at_release : (l : Lists) (id : ℕ) → P l → P (release l id).lists
   pub at_priority : (l : Lists) (id pri : ℕ) → P l → P (change_pri l id pri).lists
@@ -56,10 +56,10 @@ pub record Allows (Q P : Lists → Type 0) : Type 0 where
 module _ (Q P : Lists → Type 0) (h : Allows Q P) where
   -- the lists of a turn so far
   abbrev On : ShellTurn → Type 0
-  On x = P x.standing.lists
+  On x = P x.store.lists
 
   sent-keeps : (to kind : ℕ) (x : ShellTurn) → to ≤ 63 → On x → On (with_packet_sent to kind x)
-  sent-keeps to kind x low p = h.at_sending to (standing (written (request_words kind) x.standing.words) x.standing.lists) low p
+  sent-keeps to kind x low p = h.at_sending to (store_with_lists (written (request_words kind) x.store.words) x.store.lists) low p
 
   prompted-keeps : (x : ShellTurn) → On x → On (prompted x)
   prompted-keeps x p = sent-keeps CONSOLE READ_LINE (shown prompt x) (omega arith) p
@@ -78,7 +78,7 @@ module _ (Q P : Lists → Type 0) (h : Allows Q P) where
     where
       on : (b : Bool) → On (cond b (prompted (with_disc (with_stream_closed (with_piece x).disc) (with_piece x))) (goes_on (with_piece x)))
       on true = prompted-keeps (with_disc (with_stream_closed (with_piece x).disc) (with_piece x)) p
-      on false = h.at_sending SHELL x.standing (omega arith) p
+      on false = h.at_sending SHELL x.store (omega arith) p
 
   opened-keeps : (o : Result ℕ ℕ) (x : ShellTurn) → On x → On (typed_if o x)
   opened-keeps (Ok stream) x p = typed-keeps x p
@@ -87,33 +87,33 @@ module _ (Q P : Lists → Type 0) (h : Allows Q P) where
   -- ---- programs
 
   run-keeps : (name : List ℕ) (priority : Option ℕ) (x : ShellTurn) → On x → On (run name priority x)
-  run-keeps name priority x p = on (start_program x.disc name (Ok tt) (run_priority priority) x.standing).answer refl
+  run-keeps name priority x p = on (start_program x.disc name (Ok tt) (run_priority priority) x.store).answer refl
     where
       y : ShellTurn
-      y = with_started (start_program x.disc name (Ok tt) (run_priority priority) x.standing) x
+      y = with_started (start_program x.disc name (Ok tt) (run_priority priority) x.store) x
 
       q : On y
-      q = h.at_start x.disc name (Ok tt) (run_priority priority) x.standing p
+      q = h.at_start x.disc name (Ok tt) (run_priority priority) x.store p
 
-      on : (o : Result ℕ ℕ) → (start_program x.disc name (Ok tt) (run_priority priority) x.standing).answer ≡ o → On (after_run o y)
+      on : (o : Result ℕ ℕ) → (start_program x.disc name (Ok tt) (run_priority priority) x.store).answer ≡ o → On (after_run o y)
       on (Ok id) e =
           prompted-keeps (shown (task_number_line id) (with_program_begun id y))
-          (h.at_beginning id y.standing (le-leb 5 id (started-there x.disc name (Ok tt) (run_priority priority) x.standing id e).low) q)
+          (h.at_beginning id y.store (le-leb 5 id (started-there x.disc name (Ok tt) (run_priority priority) x.store id e).low) q)
       on (Err code) e = refused-keeps code y q
 
   start-keeps : (name : List ℕ) (rest : Result (Unit {0}) ℕ) (x : ShellTurn) → On x → On (start name rest x)
-  start-keeps name rest x p = on (start_program x.disc name rest AboveShell x.standing).answer refl
+  start-keeps name rest x p = on (start_program x.disc name rest AboveShell x.store).answer refl
     where
       y : ShellTurn
-      y = with_started (start_program x.disc name rest AboveShell x.standing) x
+      y = with_started (start_program x.disc name rest AboveShell x.store) x
 
       q : On y
-      q = h.at_start x.disc name rest AboveShell x.standing p
+      q = h.at_start x.disc name rest AboveShell x.store p
 
-      on : (o : Result ℕ ℕ) → (start_program x.disc name rest AboveShell x.standing).answer ≡ o → On (after_start o y)
+      on : (o : Result ℕ ℕ) → (start_program x.disc name rest AboveShell x.store).answer ≡ o → On (after_start o y)
       on (Ok id) e =
-          let there = started-there x.disc name rest AboveShell x.standing id e in
-          sent-keeps id program_request y (omega (arith, there.high, highest-high x.standing.lists.version)) q
+          let there = started-there x.disc name rest AboveShell x.store id e in
+          sent-keeps id program_request y (omega (arith, there.high, highest-high x.store.lists.version)) q
       on (Err code) e = refused-keeps code y q
 
   -- ---- commands
@@ -124,13 +124,13 @@ module _ (Q P : Lists → Type 0) (h : Allows Q P) where
   executed-keeps Examine x p = prompted-keeps (shown (file_lines x.disc) x) p
   executed-keeps (Delete name) x p = answered-keeps (after_delete x.disc name).answer (with_disc (after_delete x.disc name).disc x) p
   executed-keeps (Rename from to) x p = answered-keeps (after_rename x.disc from to).answer (with_disc (after_rename x.disc from to).disc x) p
-  executed-keeps Status x p = prompted-keeps (shown (task_lines x.standing.lists.tasks) x) p
-  executed-keeps Map x p = prompted-keeps (shown (block_line x.standing.lists.blocks) x) p
-  executed-keeps (Hold task) x p = answered-keeps (hold x.standing.lists task).answer (called (hold x.standing.lists task) x) (h.at_hold x.standing.lists task p)
-  executed-keeps (Release task) x p = answered-keeps (release x.standing.lists task).answer (called (release x.standing.lists task) x) (h.at_release x.standing.lists task p)
+  executed-keeps Status x p = prompted-keeps (shown (task_lines x.store.lists.tasks) x) p
+  executed-keeps Map x p = prompted-keeps (shown (block_line x.store.lists.blocks) x) p
+  executed-keeps (Hold task) x p = answered-keeps (hold x.store.lists task).answer (called (hold x.store.lists task) x) (h.at_hold x.store.lists task p)
+  executed-keeps (Release task) x p = answered-keeps (release x.store.lists task).answer (called (release x.store.lists task) x) (h.at_release x.store.lists task p)
   executed-keeps (ChangePriority task priority) x p =
-      answered-keeps (change_pri x.standing.lists task priority).answer (called (change_pri x.standing.lists task priority) x) (h.at_priority x.standing.lists task priority p)
-  executed-keeps (Break task flags) x p = answered-keeps (set_flags x.standing.lists task flags).answer (called (set_flags x.standing.lists task flags) x) (h.at_flags x.standing.lists task flags p)
+      answered-keeps (change_pri x.store.lists task priority).answer (called (change_pri x.store.lists task priority) x) (h.at_priority x.store.lists task priority p)
+  executed-keeps (Break task flags) x p = answered-keeps (set_flags x.store.lists task flags).answer (called (set_flags x.store.lists task flags) x) (h.at_flags x.store.lists task flags p)
   executed-keeps (Run program priority) x p = run-keeps program priority x p
   executed-keeps Finish x p = p
   executed-keeps (Start program rest) x p = start-keeps program rest x p
@@ -151,33 +151,33 @@ module _ (Q P : Lists → Type 0) (h : Allows Q P) where
   own-keeps (Waiting id) r x p = prompted-keeps (shown (return_code (result_of x)) x) p
   own-keeps Typing r x p = typed-keeps x p
 
-  first-keeps : (x : ShellTurn) → Q x.standing.lists → On (first_treated x)
-  first-keeps x p = on (work x.standing.lists) refl
+  first-keeps : (x : ShellTurn) → Q x.store.lists → On (first_treated x)
+  first-keeps x p = on (work x.store.lists) refl
     where
       y : ShellTurn
       y = packet_taken x
 
-      on : (ps : List QueuedPacket) → work x.standing.lists ≡ ps → On (treated (first_request y.standing.words ps) y)
-      on [] e = h.at_taking x.standing.lists p
+      on : (ps : List QueuedPacket) → work x.store.lists ≡ ps → On (treated (first_request y.store.words ps) y)
+      on [] e = h.at_taking x.store.lists p
       on (q ∷ qs) e = either (eqb q.address SHELL_PACKET)
         where
           r : Request
-          r = request_at y.standing.words q.address
+          r = request_at y.store.words q.address
 
           either : (b : Bool) → On (cond b (treated_in y.shell.mode r y) (returned_unknown r y))
-          either true = own-keeps y.shell.mode r y (h.at_taking x.standing.lists p)
-          either false = h.at_refusal x.standing.lists r q qs e refl p
+          either true = own-keeps y.shell.mode r y (h.at_taking x.store.lists p)
+          either false = h.at_refusal x.store.lists r q qs e refl p
 
   ended-keeps : (x : ShellTurn) → On x → On (ended x)
   ended-keeps x p = on x.finished
     where
-      on : (b : Bool) → On (cond b x (and_then (left_with x.standing.words (finished x.standing.lists) []) [] x))
+      on : (b : Bool) → On (cond b x (and_then (left_with x.store.words (finished x.store.lists) []) [] x))
       on true = p
-      on false = h.at_end x.standing.lists p
+      on false = h.at_end x.store.lists p
 
   -- ---- the turn
 
-  pub turn-keeps : (s : List ℕ) (l : Lists) (sh : Shell) (d : Disc) → P l → Q (cleared (standing s l)).lists → P (shell_turn s l sh d).standing.lists
+  pub turn-keeps : (s : List ℕ) (l : Lists) (sh : Shell) (d : Disc) → P l → Q (cleared (store_with_lists s l)).lists → P (shell_turn s l sh d).store.lists
   unfolding shell_turn
   turn-keeps s l sh d p q = on (work l)
     where

@@ -18,7 +18,7 @@ use Rattle.kernel_calls.specs.TaskCalls.ChangePri.{change_pri, moved, priority_t
 use Rattle.kernel_calls.specs.TaskCalls.HoldTask.{held, hold, hold_tests}
 use Rattle.kernel_calls.specs.TaskCalls.ReleaseTask.{release, release_tests, released}
 use Rattle.kernel_calls.specs.TaskCalls.SetFlags.{flagged, set_flags}
-use Rattle.kernel_model.specs.KernelRecord.Standing.{Standing}
+use Rattle.kernel_model.specs.KernelRecord.StoreWithLists.{StoreWithLists}
 use Rattle.resident_tasks.specs.ResidentRequests.Requests.{RunsResident}
 use Rattle.shell.specs.ShellPrograms.ShellPacket.{posted}
 use Rattle.shell.proofs.ShellPrograms.KeptTasks.{all-changed, all-without, any-changed}
@@ -133,5 +133,5 @@ pri-goes s t l id pri h k is r =
 
 -- ---- its packet is sent
 
-pub posted-running : (to : ℕ) (k : Standing) → to ≤ 63 → (posted to k).lists.running ≡ k.lists.running
+pub posted-running : (to : ℕ) (k : StoreWithLists) → to ≤ 63 → (posted to k).lists.running ≡ k.lists.running
 posted-running to k low = ap (λ (l : Lists). l.running) (posted-is to k low)

@@ -1,6 +1,6 @@
 pub mod PacketWords
 pub mod PacketPlace
-pub mod MadeStandings
+pub mod StoresAfterCalls
 pub mod ClearedTask
 pub mod ProgramNumbers
 pub mod StartedParts

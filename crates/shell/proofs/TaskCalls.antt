@@ -42,14 +42,14 @@ flags-call task flags = record { owns = λ s l h a. set_flags-owners s l h a tas
 -- the store that was t is u, and the call's outcome is o
 module _ {b : Start} {t : List ℕ} {tells : List ℕ → Type 0} {room : ℕ} {now : Outside} {sh : Shell} {d : Disc} {x : ShellTurn} (r : IsReady b t tells room now sh d x)
     (call : Lists → Made) (is : IsTaskCall call) (u : List ℕ) (o : Result (Unit {0}) ℕ) (leaves : (l : Lists) → HoldsLists t l → Leaves t u (plain_answer o) (call l)) where
-  pub ready-by-call : IsReady b u tells room now sh d (called (call x.standing.lists) x)
+  pub ready-by-call : IsReady b u tells room now sh d (called (call x.store.lists) x)
   ready-by-call =
-      let l = x.standing.lists in
-      let h = r.done.stands.keeper.lists in
+      let l = x.store.lists in
+      let h = r.done.represents.keeper.lists in
       let y = leaves l h in
       ready-called r u (plain_answer o) (call l) y (is.owns t l h) (is.goes t u l h y.lists.lists r.done.is r.done.runs)
 
   -- once the outcome is answered
   pub done-by-call : {v : List ℕ} {told : List ℕ → Type 0} {after : ℕ} {later : Outside} {sh' : Shell} {e : Disc} {fin : Bool}
-      → ((y : ShellTurn) → IsReady b u tells room now sh d y → IsDone b v told after later sh' e fin (answered o y)) → IsDone b v told after later sh' e fin (by_call (call x.standing.lists) x)
-  done-by-call answer = done-is (answer _ ready-by-call) _ (answered-plainly o (call x.standing.lists).answer _ (leaves x.standing.lists r.done.stands.keeper.lists).answered)
+      → ((y : ShellTurn) → IsReady b u tells room now sh d y → IsDone b v told after later sh' e fin (answered o y)) → IsDone b v told after later sh' e fin (by_call (call x.store.lists) x)
+  done-by-call answer = done-is (answer _ ready-by-call) _ (answered-plainly o (call x.store.lists).answer _ (leaves x.store.lists r.done.represents.keeper.lists).answered)

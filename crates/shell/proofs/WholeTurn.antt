@@ -9,16 +9,16 @@ use Rattle.kernel_model.proofs.KernelRecord.NotedInTurn.{notes-none, notes-then}
 use Rattle.ram_disc.specs.Disc.{Disc}
 use Rattle.kernel_calls.specs.CallAnswers.Outside.{Outside}
 use Rattle.kernel_calls.specs.PacketCalls.TaskWait.{first_of_queue}
-use Rattle.kernel_model.specs.KernelRecord.Standing.{left_with}
+use Rattle.kernel_model.specs.KernelRecord.StoreWithLists.{left_with}
 use Rattle.resident_tasks.specs.ResidentRequests.Answers.{IsFinished, finished}
 use Rattle.resident_tasks.specs.ResidentRequests.Requests.{work}
 use Rattle.shell.specs.ShellPrograms.ClearedTasks.{cleared}
-use Rattle.shell.specs.ShellPrograms.Standings.{RepresentsStanding}
+use Rattle.shell.specs.ShellPrograms.StoresWithLists.{RepresentsStoreWithLists}
 use Rattle.shell.proofs.ShellPrograms.KeptRules.{cleared-residents, cleared-runs}
 use Rattle.shell.specs.DoneParts.{IsDone, IsShellTurn, Start}
 use Rattle.shell.specs.ShellTurn.{RunsShell, all_parts, ended, first_treated, shell_turn, with_cleared}
 use Rattle.shell.specs.TurnParts.{ShellTurn, and_then, begun}
-use Rattle.shell.proofs.DoneParts.{done-quietly, left-stands}
+use Rattle.shell.proofs.DoneParts.{done-quietly, left-represents}
 
 abbrev start : Outside → ℕ → Start
 start o room = record { outside = o; room = room }
@@ -27,7 +27,7 @@ pub done-begun : (s : List ℕ) (tells : List ℕ → Type 0) (room : ℕ) (o : 
     → IsDone (start o room) s tells room o sh d false (begun s l sh d)
 done-begun s tells room o l sh d k r =
     record {
-      stands = record { words = refl; keeper = k };
+      represents = record { words = refl; keeper = k };
       room = refl;
       bytes = sym (append-nil o.shown);
       notes = notes-none o.noted o.failed;
@@ -40,10 +40,10 @@ done-begun s tells room o l sh d k r =
 
 -- the shell has cleared up
 pub done-cleared : {b : Start} {t : List ℕ} {tells : List ℕ → Type 0} {room : ℕ} {now : Outside} {sh : Shell} {d : Disc} {fin : Bool} {x : ShellTurn}
-    → IsDone b t tells room now sh d fin x → (u : List ℕ) (told : List ℕ → Type 0) (after : ℕ) → RepresentsStanding u told after (cleared x.standing) → after ≡ room
+    → IsDone b t tells room now sh d fin x → (u : List ℕ) (told : List ℕ → Type 0) (after : ℕ) → RepresentsStoreWithLists u told after (cleared x.store) → after ≡ room
     → IsDone b u told after now sh d fin (with_cleared x)
-done-cleared {x = x} h u told after stands room_is =
-    done-quietly h stands room_is (cleared-runs x.standing h.runs) (ap (λ (l : Lists). l.running) (cleared-residents x.standing).rest)
+done-cleared {x = x} h u told after represents room_is =
+    done-quietly h represents room_is (cleared-runs x.store h.runs) (ap (λ (l : Lists). l.running) (cleared-residents x.store).rest)
 
 pub done-ends : {b : Start} {t : List ℕ} {tells : List ℕ → Type 0} {room : ℕ} {now : Outside} {sh : Shell} {d : Disc} {fin : Bool} {x : ShellTurn}
     → IsDone b t tells room now sh d fin x → {f : Bool} → fin ≡ f → IsDone b t tells room now sh d f x
@@ -53,26 +53,26 @@ done-ends {b = b} {t = t} {tells = tells} {room = room} {now = now} {sh = sh} {d
 
 -- it waits where it has no packets
 pub turn-ended : {b : Start} {t : List ℕ} {tells : List ℕ → Type 0} {room : ℕ} {now : Outside} {sh : Shell} {d : Disc} {x : ShellTurn}
-    → IsDone b t tells room now sh d false x → (u : List ℕ) → IsFinished t u x.standing.lists → IsShellTurn u tells room b.outside now sh d false (ended x)
+    → IsDone b t tells room now sh d false x → (u : List ℕ) → IsFinished t u x.store.lists → IsShellTurn u tells room b.outside now sh d false (ended x)
 turn-ended {b = b} {tells = tells} {room = room} {now = now} {sh = sh} {d = d} {x = x} h u y = on x.finished h.finished
   where
     rest : ShellTurn
-    rest = and_then (left_with x.standing.words (finished x.standing.lists) []) [] x
+    rest = and_then (left_with x.store.words (finished x.store.lists) []) [] x
 
-    stands : RepresentsStanding u tells room rest.standing
-    stands = left-stands h.stands u tells room (finished x.standing.lists) [] y.lists (knows-same tells x.standing.lists (finished x.standing.lists) y.same h.stands.keeper.knows) refl
+    represents : RepresentsStoreWithLists u tells room rest.store
+    represents = left-represents h.represents u tells room (finished x.store.lists) [] y.lists (knows-same tells x.store.lists (finished x.store.lists) y.same h.represents.keeper.knows) refl
 
     on : (f : Bool) → false ≡ f → IsShellTurn u tells room b.outside now sh d false (cond f x rest)
     on true e = cc
-    on false e = record { stands = stands; bytes = h.bytes; notes = notes-then b.outside.noted now.noted now.noted b.outside.failed now.failed now.failed x.events [] h.notes (notes-none now.noted now.failed); shell = h.shell; disc = h.disc; finished = h.finished }
+    on false e = record { represents = represents; bytes = h.bytes; notes = notes-then b.outside.noted now.noted now.noted b.outside.failed now.failed now.failed x.events [] h.notes (notes-none now.noted now.failed); shell = h.shell; disc = h.disc; finished = h.finished }
 
 -- the machine is finished
 pub turn-finished : {b : Start} {t : List ℕ} {tells : List ℕ → Type 0} {room : ℕ} {now : Outside} {sh : Shell} {d : Disc} {x : ShellTurn}
     → IsDone b t tells room now sh d true x → IsShellTurn t tells room b.outside now sh d true (ended x)
 turn-finished {b = b} {t = t} {tells = tells} {room = room} {now = now} {sh = sh} {d = d} {x = x} h = on x.finished h.finished
   where
-    on : (f : Bool) → true ≡ f → IsShellTurn t tells room b.outside now sh d true (cond f x (and_then (left_with x.standing.words (finished x.standing.lists) []) [] x))
-    on true e = record { stands = h.stands; bytes = h.bytes; notes = h.notes; shell = h.shell; disc = h.disc; finished = h.finished }
+    on : (f : Bool) → true ≡ f → IsShellTurn t tells room b.outside now sh d true (cond f x (and_then (left_with x.store.words (finished x.store.lists) []) [] x))
+    on true e = record { represents = h.represents; bytes = h.bytes; notes = h.notes; shell = h.shell; disc = h.disc; finished = h.finished }
     on false e = cc
 
 -- ---- with a packet, and without one

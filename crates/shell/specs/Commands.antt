@@ -42,7 +42,7 @@ run_priority (Some priority) = Given priority
 
 -- the task of the program is made ready to begin
 abbrev pub with_program_begun : ℕ → ShellTurn → ShellTurn
-with_program_begun id x = and_then (begun id x.standing) [] x
+with_program_begun id x = and_then (begun id x.store) [] x
 
 -- the number of the new task is told, or the code of the refusal
 abbrev pub after_run : Result ℕ ℕ → ShellTurn → ShellTurn
@@ -55,7 +55,7 @@ by_run m x = after_run m.answer (with_started m x)
 
 -- a program runs beside the shell, as a task of a priority that may be given; the shell prompts at once
 abbrev pub run : List ℕ → Option ℕ → ShellTurn → ShellTurn
-run program priority x = by_run (start_program x.disc program (Ok tt) (run_priority priority) x.standing) x
+run program priority x = by_run (start_program x.disc program (Ok tt) (run_priority priority) x.store) x
 
 -- the type of the request that a program gets
 abbrev pub program_request : ℕ
@@ -72,7 +72,7 @@ by_start m x = after_start m.answer (with_started m x)
 
 -- a program whose name was typed is started, and runs before the shell; it is refused where words follow its name
 abbrev pub start : List ℕ → Result (Unit {0}) ℕ → ShellTurn → ShellTurn
-start program rest x = by_start (start_program x.disc program rest AboveShell x.standing) x
+start program rest x = by_start (start_program x.disc program rest AboveShell x.store) x
 
 -- ---- all commands
 
@@ -87,12 +87,12 @@ executed («Type» name) x = with_file_typed name x
 executed Examine x = prompted (shown (file_lines x.disc) x)
 executed (Delete name) x = by_disc (after_delete x.disc name) x
 executed (Rename from to) x = by_disc (after_rename x.disc from to) x
-executed Status x = prompted (shown (task_lines x.standing.lists.tasks) x)
-executed Map x = prompted (shown (block_line x.standing.lists.blocks) x)
-executed (Hold task) x = by_call (hold x.standing.lists task) x
-executed (Release task) x = by_call (release x.standing.lists task) x
-executed (ChangePriority task priority) x = by_call (change_pri x.standing.lists task priority) x
-executed (Break task flags) x = by_call (set_flags x.standing.lists task flags) x
+executed Status x = prompted (shown (task_lines x.store.lists.tasks) x)
+executed Map x = prompted (shown (block_line x.store.lists.blocks) x)
+executed (Hold task) x = by_call (hold x.store.lists task) x
+executed (Release task) x = by_call (release x.store.lists task) x
+executed (ChangePriority task priority) x = by_call (change_pri x.store.lists task priority) x
+executed (Break task flags) x = by_call (set_flags x.store.lists task flags) x
 executed (Run program priority) x = run program priority x
 executed Finish x = with_finish x
 executed (Start program rest) x = start program rest x

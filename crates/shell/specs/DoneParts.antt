@@ -6,7 +6,7 @@ use Rattle.ram_disc.specs.Disc.{Disc}
 use Rattle.kernel_calls.specs.CallAnswers.Outside.{Outside}
 use Rattle.resident_tasks.specs.ResidentRequests.Requests.{RunsResident}
 use Rattle.shell.specs.ShellPrograms.ShellPacket.{HasPacket}
-use Rattle.shell.specs.ShellPrograms.Standings.{RepresentsStanding}
+use Rattle.shell.specs.ShellPrograms.StoresWithLists.{RepresentsStoreWithLists}
 use Rattle.kernel_model.specs.declared.kernel_record.numbers.TheConstants.{SHELL}
 use Rattle.shell.specs.TurnParts.{ShellTurn}
 
@@ -21,7 +21,7 @@ pub record Start : Type 0 where
 -- The shell still runs.
 pub record IsDone (b : Start) (t : List ℕ) (tells : List ℕ → Type 0) (most : ℕ) (now : Outside) (sh : Shell) (d : Disc) (ends : Bool) (x : ShellTurn) : Type 0 where
   -- the store is as the parts leave it, and the keeper knows its words
-  pub stands : RepresentsStanding t tells most x.standing
+  pub represents : RepresentsStoreWithLists t tells most x.store
   -- the keeper has room for as many words as before
   pub room : most ≡ b.room
   -- the bytes went to the console
@@ -35,21 +35,21 @@ pub record IsDone (b : Start) (t : List ℕ) (tells : List ℕ → Type 0) (most
   -- whether the machine stops
   pub finished : ends ≡ x.finished
   -- a resident runs
-  pub runs : RunsResident x.standing.lists
+  pub runs : RunsResident x.store.lists
   -- it is the shell
-  pub is : x.standing.lists.running ≡ SHELL
+  pub is : x.store.lists.running ≡ SHELL
 
 -- and it has its packet, and has not finished the machine
 pub record IsReady (b : Start) (t : List ℕ) (tells : List ℕ → Type 0) (most : ℕ) (now : Outside) (sh : Shell) (d : Disc) (x : ShellTurn) : Type 0 where
   -- so much is done, and the machine goes on
   pub done : IsDone b t tells most now sh d false x
   -- the shell has its packet
-  pub packet : HasPacket x.standing.lists
+  pub packet : HasPacket x.store.lists
 
 -- what a whole turn has left, and whether the machine is finished
 pub record IsShellTurn (t : List ℕ) (tells : List ℕ → Type 0) (most : ℕ) (old now : Outside) (sh : Shell) (d : Disc) (ends : Bool) (x : ShellTurn) : Type 0 where
   -- the store is as the turn leaves it, and the keeper knows its words
-  pub stands : RepresentsStanding t tells most x.standing
+  pub represents : RepresentsStoreWithLists t tells most x.store
   -- the bytes went to the console
   pub bytes : now.shown ≡ old.shown ++ x.bytes
   -- the events went to the log

@@ -13,7 +13,7 @@ prompt = codes "> "
 
 -- the shell's packet goes to the task with the number, as a request of this type
 abbrev pub with_packet_sent : ℕ → ℕ → ShellTurn → ShellTurn
-with_packet_sent to kind x = and_then (requested to kind x.standing) (post_events to) x
+with_packet_sent to kind x = and_then (requested to kind x.store) (post_events to) x
 
 -- the shell prompts: it writes the prompt, asks the console for a line, and reads that next
 abbrev pub prompted : ShellTurn → ShellTurn

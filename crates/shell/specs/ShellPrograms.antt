@@ -1,4 +1,4 @@
-pub mod Standings
+pub mod StoresWithLists
 pub mod ClearedTasks
 pub mod StartedProgram
 pub mod ShellPacket

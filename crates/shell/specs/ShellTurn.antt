@@ -9,7 +9,7 @@ use Rattle.ram_disc.specs.Disc.{Disc, IsDisc, shell_stream, stream_at}
 use Rattle.resident_tasks.specs.ResidentRequests.Answers.{finished, returned}
 use Rattle.resident_tasks.specs.ResidentRequests.Requests.{RunsResident, first_request, taken, work}
 use Rattle.resident_tasks.specs.declared.resident_requests.requests.Request.{Request}
-use Rattle.kernel_model.specs.KernelRecord.Standing.{left_with}
+use Rattle.kernel_model.specs.KernelRecord.StoreWithLists.{left_with}
 use Rattle.shell.specs.ShellListings.NumberLines.{return_code_line}
 use Rattle.shell.specs.ShellPrograms.ClearedTasks.{cleared}
 use Rattle.kernel_model.specs.declared.kernel_record.numbers.TheConstants.{CONSOLE, RES1, SHELL, SHELL_PACKET}
@@ -27,7 +27,7 @@ line_read r x = if r.sender == CONSOLE then line_executed x else prompted x
 
 -- what a program gives back: the first result of the shell's packet
 abbrev pub result_of : ShellTurn → ℕ
-result_of x = slice_index x.standing.words (SHELL_PACKET + RES1)
+result_of x = slice_index x.store.words (SHELL_PACKET + RES1)
 
 -- the line that tells it; 0 is not told
 abbrev pub return_code : ℕ → List ℕ
@@ -48,7 +48,7 @@ treated_in Typing r x = typed x
 
 -- every other packet is returned, refused
 abbrev pub returned_unknown : Request → ShellTurn → ShellTurn
-returned_unknown r x = called (returned x.standing.lists r (Err UNKNOWN_TYPE)) x
+returned_unknown r x = called (returned x.store.lists r (Err UNKNOWN_TYPE)) x
 
 -- the shell's own packet goes by the mode; any other one is returned, refused
 abbrev pub treated : Option Request → ShellTurn → ShellTurn
@@ -57,11 +57,11 @@ treated (Some r) x = if r.packet == SHELL_PACKET then treated_in x.shell.mode r 
 
 -- the first packet is taken
 abbrev pub packet_taken : ShellTurn → ShellTurn
-packet_taken x = and_then (left_with x.standing.words (taken x.standing.lists).lists (taken x.standing.lists).plain) (taken x.standing.lists).events x
+packet_taken x = and_then (left_with x.store.words (taken x.store.lists).lists (taken x.store.lists).plain) (taken x.store.lists).events x
 
 -- the request of the first packet, in the words that taking it leaves
 abbrev pub request_of : ShellTurn → Option Request
-request_of x = first_request (packet_taken x).standing.words (work x.standing.lists)
+request_of x = first_request (packet_taken x).store.words (work x.store.lists)
 
 -- the first packet is taken and treated
 abbrev pub first_treated : ShellTurn → ShellTurn
@@ -71,7 +71,7 @@ first_treated x = treated (request_of x) (packet_taken x)
 
 -- the tasks of the shell that are dead go, with their modules
 abbrev pub with_cleared : ShellTurn → ShellTurn
-with_cleared x = and_then (cleared x.standing) [] x
+with_cleared x = and_then (cleared x.store) [] x
 
 -- where it has a packet the shell clears up, and then takes the first
 abbrev pub all_parts : List QueuedPacket → ShellTurn → ShellTurn
@@ -81,7 +81,7 @@ all_parts (p ∷ ps) x = first_treated (with_cleared x)
 -- the shell waits where it has no packets, and still runs where it has some; at the command that finishes the machine nothing
 -- more is done
 abbrev pub ended : ShellTurn → ShellTurn
-ended x = if x.finished then x else and_then (left_with x.standing.words (finished x.standing.lists) []) [] x
+ended x = if x.finished then x else and_then (left_with x.store.words (finished x.store.lists) []) [] x
 
 -- the turn of the shell, in these words and lists, from what it keeps and the disc
 unfoldable pub shell_turn : List ℕ → Lists → Shell → Disc → ShellTurn

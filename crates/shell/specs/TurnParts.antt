@@ -5,12 +5,12 @@ use Rattle.kernel_model.specs.KernelRecord.Kernel.{Mode, Shell}
 use Rattle.kernel_model.specs.KernelRecord.Lists.{Lists}
 use Rattle.ram_disc.specs.Disc.{Disc}
 use Rattle.kernel_calls.specs.CallAnswers.Made.{Made}
-use Rattle.kernel_model.specs.KernelRecord.Standing.{Standing, left_with, standing}
+use Rattle.kernel_model.specs.KernelRecord.StoreWithLists.{StoreWithLists, left_with, store_with_lists}
 
 -- How far a turn of the shell has come.
 pub record ShellTurn : Type 0 where
   -- the words of the store and its lists
-  pub standing : Standing
+  pub store : StoreWithLists
   -- what the shell does next, and its line
   pub shell : Shell
   -- the disc
@@ -24,7 +24,7 @@ pub record ShellTurn : Type 0 where
 
 -- nothing is done yet
 abbrev pub begun : List ℕ → Lists → Shell → Disc → ShellTurn
-begun words l sh d = record { standing = standing words l; shell = sh; disc = d; bytes = []; events = []; finished = false }
+begun words l sh d = record { store = store_with_lists words l; shell = sh; disc = d; bytes = []; events = []; finished = false }
 
 -- bytes go to the console
 abbrev pub shown : List ℕ → ShellTurn → ShellTurn
@@ -39,12 +39,12 @@ abbrev pub with_disc : Disc → ShellTurn → ShellTurn
 with_disc d x = record x { disc = d }
 
 -- a part more leaves this of the store, and has these events
-abbrev pub and_then : Standing → List KernelEvent → ShellTurn → ShellTurn
-and_then k events x = record x { standing = k; events = x.events ++ events }
+abbrev pub and_then : StoreWithLists → List KernelEvent → ShellTurn → ShellTurn
+and_then k events x = record x { store = k; events = x.events ++ events }
 
 -- a call makes this of the lists
 abbrev pub called : Made → ShellTurn → ShellTurn
-called m x = and_then (left_with x.standing.words m.lists m.plain) m.events x
+called m x = and_then (left_with x.store.words m.lists m.plain) m.events x
 
 -- a turn writes at most so many bytes: a list of tasks, and a prompt
 abbrev pub most_shown : ℕ

@@ -39,7 +39,7 @@ with_piece x = with_disc (after_piece x.disc) (shown (next_piece x.disc) x)
 
 -- the shell sends its packet to itself, so that it types on at its next turn
 abbrev pub goes_on : ShellTurn → ShellTurn
-goes_on x = in_mode Typing (and_then (posted SHELL x.standing) (post_events SHELL) x)
+goes_on x = in_mode Typing (and_then (posted SHELL x.store) (post_events SHELL) x)
 
 -- where the file has ended its stream is closed, and the shell prompts; else it types on
 abbrev pub after_typing : ShellTurn → ShellTurn

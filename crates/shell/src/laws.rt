@@ -1,7 +1,7 @@
 // What the shell's turn keeps.
 ghost use Rattle.std.specs.Prelude.{◌≡◌, ℕ, List, is_some};
 ghost use Rattle.word_store.specs.declared.registers.Regs.{Regs};
-ghost use Rattle.kernel_model.specs.KernelRecord.Between.{FaultsStand, IsAwaited, is_typing};
+ghost use Rattle.kernel_model.specs.KernelRecord.Between.{AreValidFaults, IsAwaited, is_typing};
 ghost use Rattle.kernel_model.specs.KernelRecord.Kernel.{Shell};
 ghost use Rattle.kernel_model.specs.KernelRecord.Lists.{Lists};
 ghost use Rattle.kernel_model.specs.KernelRecord.ValidLists.{AreValid};
@@ -19,12 +19,12 @@ ghost use Rattle.shell.specs.ShellTurn.{RunsShell, shell_turn};
 /// not reported yet.
 pub fn lists_law()
     ensures rest { (s : List ℕ) (l : Lists) (sh : Shell) (d : Disc)
-        → KeepsRest l (shell_turn s l sh d).standing.lists }
+        → KeepsRest l (shell_turn s l sh d).store.lists }
     ensures dispatch { (s : List ℕ) (l : Lists) (sh : Shell) (d : Disc) (r : Regs) → RunsResident l
-        → CanDispatch l r → CanDispatch (shell_turn s l sh d).standing.lists r }
+        → CanDispatch l r → CanDispatch (shell_turn s l sh d).store.lists r }
     ensures faults { (s : List ℕ) (l : Lists) (sh : Shell) (d : Disc) → AreValid l → RunsResident l
-        → l.running ≡ SHELL → FaultsStand l
-        → FaultsStand (shell_turn s l sh d).standing.lists }
+        → l.running ≡ SHELL → AreValidFaults l
+        → AreValidFaults (shell_turn s l sh d).store.lists }
 {}
 
 /// After a turn too the shell's stream is open exactly while it types a file, and the task for which it waits has a guest's

@@ -10,14 +10,14 @@ use Rattle.session_text.specs.declared.sessions.SessionLine.{SessionLine}
 use Rattle.bare_machine.specs.Boot.{boot as bare_boot, code_of, first_state, program, with_bytes, with_lines as with_code}
 use Rattle.bare_machine.specs.State.{BareState}
 use Rattle.kernel_model.specs.KernelRecord.Kernel.{Kernel}
-use Rattle.kernel_model.specs.KernelRecord.Standing.{Standing, standing}
+use Rattle.kernel_model.specs.KernelRecord.StoreWithLists.{StoreWithLists, store_with_lists}
 use Rattle.kernel_model.specs.KernelRecord.Image.{image}
 use Rattle.kernel_boot.specs.BootFiles.{at_line, boot_refusal, load_files, load_form}
 use Rattle.kernel_boot.specs.BootTasks.{start_form, start_tasks}
 use Rattle.kernel_boot.specs.declared.refusals.BootRefusal.{BootRefusal}
 use Rattle.kernel_machine.specs.KernelSteps.ResidentSteps.{with_disc}
 use Rattle.kernel_machine.specs.KernelSteps.Stepped.{Stepped}
-use Rattle.kernel_machine.specs.MachineBoot.Boot.{boot, first_kernel, started, with_files, with_lines, with_standing, with_tasks}
+use Rattle.kernel_machine.specs.MachineBoot.Boot.{boot, first_kernel, started, with_files, with_lines, with_store_of, with_tasks}
 use Rattle.tripos_machine.specs.Boot.{bare_booted, boot as machine_boot, kernel_booted}
 
 module _ (P : ℕ → Type 0) where
@@ -53,11 +53,11 @@ module _ (P : ℕ → Type 0) where
       on (Ok e) rest f = rest e f
       on (Err code) rest f = (let same : boot_refusal line.line code ≡ r = cc in subst (λ (q : BootRefusal). P q.line) same here)
 
-  tasks-refused : (d : _) (lines : List SessionLine) (k : Standing) (r : BootRefusal) → AllLines lines → start_tasks d lines k ≡ Err r → P r.line
+  tasks-refused : (d : _) (lines : List SessionLine) (k : StoreWithLists) (r : BootRefusal) → AllLines lines → start_tasks d lines k ≡ Err r → P r.line
   tasks-refused d [] k r all is = cc
   tasks-refused d (line ∷ lines) k r (here, later) is = on (start_form d line.form k) (λ j. tasks-refused d lines j r later) is
     where
-      on : (x : Result Standing ℕ) → ((j : Standing) → start_tasks d lines j ≡ Err r → P r.line) → at_line line.line x (λ j. start_tasks d lines j) ≡ Err r → P r.line
+      on : (x : Result StoreWithLists ℕ) → ((j : StoreWithLists) → start_tasks d lines j ≡ Err r → P r.line) → at_line line.line x (λ j. start_tasks d lines j) ≡ Err r → P r.line
       on (Ok j) rest f = rest j f
       on (Err code) rest f = (let same : boot_refusal line.line code ≡ r = cc in subst (λ (q : BootRefusal). P q.line) same here)
 
@@ -72,8 +72,8 @@ module _ (P : ℕ → Type 0) where
   with-tasks-refused : (lines : List SessionLine) (k : Kernel) (r : BootRefusal) → AllLines lines → with_tasks lines k ≡ Err r → P r.line
   unfolding with_tasks
   with-tasks-refused lines k r all is =
-      elim (bind-err (start_tasks k.disc lines (standing (image k) k.lists)) (λ y. Ok (with_standing y k)) r is) [
-        | inl e ↦ tasks-refused k.disc lines (standing (image k) k.lists) r all e
+      elim (bind-err (start_tasks k.disc lines (store_with_lists (image k) k.lists)) (λ y. Ok (with_store_of y k)) r is) [
+        | inl e ↦ tasks-refused k.disc lines (store_with_lists (image k) k.lists) r all e
         | inr e ↦ let other = e.2 in cc
       ]
 

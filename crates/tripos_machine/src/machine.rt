@@ -59,7 +59,7 @@ impl Machine {
 
     /// Its parts. They are those of its state, which is sound, and the script has all its keys.
     pub fn into_parts(self) -> Parts
-        ensures stand { RepresentsState result self.state }
+        ensures represents { RepresentsState result self.state }
         ensures sound { IsSound self.state }
         ensures keys { keys_of result ≡ self.keys }
     {
@@ -72,7 +72,7 @@ impl Machine {
 
     /// The parts of a machine with a kernel, lent, with all its keys; `None` exactly for one without, which has no keys.
     pub fn kernel_parts(&self) -> Option<&FullParts>
-        ensures stand { MatchOption result (IsBare self.now.state)
+        ensures represents { MatchOption result (IsBare self.now.state)
             (λ parts. RepresentsFullState parts.now self.now.state) }
         ensures sound { IsSound self.now.state }
         ensures keys { MatchOption result (self.now.keys ≡ [])

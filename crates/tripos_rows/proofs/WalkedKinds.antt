@@ -6,5 +6,5 @@ use Rattle.tripos_machine.specs.State.{IsSound, RepresentsFullState, State}
 use Rattle.tripos_machine.specs.State.State.{Bare, Full}
 
 pub walks : (p : Parts) (s : State) → RepresentsFullState p s → IsSound s → CanWalkLists p.store
-walks p (Bare m) stands sound = absurd stands
-walks p (Full k) stands sound = can-walk p.store k.lists (record { valid = sound.lists; size = stands.image.size; holds = stands.image.holds })
+walks p (Bare m) represents sound = absurd represents
+walks p (Full k) represents sound = can-walk p.store k.lists (record { valid = sound.lists; size = represents.image.size; holds = represents.image.holds })

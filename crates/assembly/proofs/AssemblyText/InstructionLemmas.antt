@@ -11,7 +11,7 @@ use Rattle.instruction_set.specs.declared.instruction_table.forms.Form.TheVarian
 use Rattle.instruction_set.proofs.InstructionTable.Entries.{entry_past, passes_at, passes_below}
 use Rattle.instruction_set.proofs.InstructionTable.NameLemmas.{byte_named_at}
 use Rattle.instruction_set.specs.OperandForms.Decoded.{decoded}
-use Rattle.instruction_set.specs.OperandForms.BytesAt.{StandsAt, with_number}
+use Rattle.instruction_set.specs.OperandForms.BytesAt.{HasBytesAt, with_number}
 use Rattle.instruction_set.proofs.OperandForms.Encoding.{number_decoded}
 use Rattle.assembly.specs.AssemblyText.Directives.{directive_named}
 use Rattle.assembly.specs.AssemblyText.InstructionOperands.{operands_with}
@@ -93,7 +93,7 @@ made byte n row e h = statement_of_row byte row (operands_with row.form n) e ∙
 bytes_of : (a b : List ℕ) (r : Result Statement LineError) → r ≡ Ok (Fixed a) → r ≡ Ok (Fixed b) → a ≡ b
 bytes_of a b r p q = cc
 
-pub decoded_again : (code : ℕ → Option ℕ) (pc byte n : ℕ) (row : Entry) (bytes : List ℕ) → entry byte ≡ Some row → HasRoom row.form n → statement_named row.name (operands_with row.form n) ≡ Ok (Fixed bytes) → StandsAt code pc bytes → decoded code pc ≡ Ok (with_number byte row n)
-decoded_again code pc byte n row bytes e h s stands =
+pub decoded_again : (code : ℕ → Option ℕ) (pc byte n : ℕ) (row : Entry) (bytes : List ℕ) → entry byte ≡ Some row → HasRoom row.form n → statement_named row.name (operands_with row.form n) ≡ Ok (Fixed bytes) → HasBytesAt code pc bytes → decoded code pc ≡ Ok (with_number byte row n)
+decoded_again code pc byte n row bytes e h s bytes_there =
     let same = bytes_of bytes (byte ∷ operand_bytes row.form n) (statement_named row.name (operands_with row.form n)) s (made byte n row e h) in
-    number_decoded code pc byte n row e h (subst (StandsAt code pc) same stands)
+    number_decoded code pc byte n row e h (subst (HasBytesAt code pc) same bytes_there)

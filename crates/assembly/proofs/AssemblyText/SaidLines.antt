@@ -17,7 +17,7 @@ use Rattle.instruction_set.specs.declared.instruction_table.forms.Form.{Form}
 use Rattle.instruction_set.specs.declared.instruction_table.forms.Form.TheVariants.{Plain, Byte, BytePlus, Half, Word, Relative, Indirect, Switch}
 use Rattle.instruction_set.proofs.InstructionTable.NameLemmas.{byte_named_has}
 use Rattle.assembly.specs.AssemblyText.Directives.{directive_named}
-use Rattle.assembly.specs.AssemblyText.LineForm.{AreParts, BeginsPlain, IsCommented, IsLine, IsNumber, Range, Says, data_range, directive_name, range_of, stands_alone}
+use Rattle.assembly.specs.AssemblyText.LineForm.{AreParts, BeginsPlain, IsCommented, IsLine, IsNumber, Range, Says, data_range, directive_name, has_name_alone, range_of}
 use Rattle.assembly.specs.AssemblyText.LineForm.IsLine.{labelled as with_label, plain}
 use Rattle.assembly.specs.AssemblyText.LineForm.Says.{nothing, alone, number, relative, indirect, bytes, reserve, address, align_half, align_word, global as global_pair}
 use Rattle.assembly.specs.AssemblyText.LineText.{align, before_colon, directed, instruction, instruction_named, labelled, line_of, line_of_parts, statement_named, statement_of, unlabelled, with_number}
@@ -151,8 +151,8 @@ module _ (name : List ℕ) (parts : List (List ℕ)) where
   labelled-ok f rule = bind_ok (label-ok parts (shape-of parts)) (λ l is. this_ok (subst (λ z. Says (name ∷ z) (f l)) (sym is.0) (rule l is.1)))
 
 instruction-ok : (byte : ℕ) (row : Entry) (parts : List (List ℕ)) → entry byte ≡ Some row → (form : Form) → row.form ≡ form → OkIs (Says (row.name ∷ parts)) (instruction byte form (operands_of parts))
-instruction-ok byte row parts e (Plain k) is = alone-ok row.name parts (says.Fixed (byte ∷ [])) (alone e (ap stands_alone is))
-instruction-ok byte row parts e Switch is = alone-ok row.name parts (says.Fixed (byte ∷ [])) (alone e (ap stands_alone is))
+instruction-ok byte row parts e (Plain k) is = alone-ok row.name parts (says.Fixed (byte ∷ [])) (alone e (ap has_name_alone is))
+instruction-ok byte row parts e Switch is = alone-ok row.name parts (says.Fixed (byte ∷ [])) (alone e (ap has_name_alone is))
 instruction-ok byte row parts e Byte is = bytes-ok row.name parts (byte ∷ []) 1 (pos 0) (pos 255) (λ part n x. number e (ap range_of is) x)
 instruction-ok byte row parts e BytePlus is = bytes-ok row.name parts (byte ∷ []) 1 (pos 256) (pos 511) (λ part n x. number e (ap range_of is) x)
 instruction-ok byte row parts e Half is = bytes-ok row.name parts (byte ∷ []) 2 (pos 0) (pos 65535) (λ part n x. number e (ap range_of is) x)
@@ -304,7 +304,7 @@ ranged front r range n e inside =
     (with-number-is front r.size r.low r.high n (subst (λ z. is_from_to z.low z.high n ≡ true) (sym is) inside))
 
 module _ (byte : ℕ) where
-  alone-is : (form : Form) → stands_alone form ≡ true → instruction byte form Nothing ≡ Ok (says.Fixed (byte ∷ []))
+  alone-is : (form : Form) → has_name_alone form ≡ true → instruction byte form Nothing ≡ Ok (says.Fixed (byte ∷ []))
   alone-is (Plain k) e = refl
   alone-is Switch e = refl
   alone-is Byte e = cc

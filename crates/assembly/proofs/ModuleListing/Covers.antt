@@ -11,7 +11,7 @@ use Rattle.instruction_set.specs.OperandForms.Decoded.{decoded}
 use Rattle.instruction_set.proofs.OperandForms.Inside.{decoded_inside}
 use Rattle.instruction_set.specs.declared.operand_forms.instructions.DecodeEnd.{DecodeEnd}
 use Rattle.instruction_set.specs.declared.operand_forms.instructions.Instr.{Instr}
-use Rattle.assembly.specs.ModuleListing.Cover.{Follow, ListedLine, hunk_lines, line_at, lines_between, stands_for}
+use Rattle.assembly.specs.ModuleListing.Cover.{Follow, ListedLine, covers, hunk_lines, line_at, lines_between}
 use Rattle.assembly.specs.ModuleListing.HunkListing.{lines_from, lines_of_words}
 use Rattle.assembly.specs.ModuleListing.Listing.{listed, listed_as}
 
@@ -53,29 +53,29 @@ module _ (words : List ℕ) (short : length words < 2 ^ 30) where
 
 -- ---- each byte stands in one line
 
-before : (b a end : ℕ) (lines : List ListedLine) → b < a → Follow a end lines → length (filter (stands_for b) lines) ≡ 0
+before : (b a end : ℕ) (lines : List ListedLine) → b < a → Follow a end lines → length (filter (covers b) lines) ≡ 0
 before b a end [] lt f = refl
 before b a end (line ∷ lines) lt f =
     let at = f.0 in
-    let none : stands_for b line ≡ false = grind (arith, nat_tests) in
+    let none : covers b line ≡ false = grind (arith, nat_tests) in
     let rest = before b (a + line.length) end lines (omega arith) f.2 in
     rw (none) rest
 
-covered : (b a end : ℕ) (lines : List ListedLine) → a ≤ b → b < end → Follow a end lines → length (filter (stands_for b) lines) ≡ 1
+covered : (b a end : ℕ) (lines : List ListedLine) → a ≤ b → b < end → Follow a end lines → length (filter (covers b) lines) ≡ 1
 covered b a end [] le lt f = absurd (omega arith)
 covered b a end (line ∷ lines) le lt f =
     let at = f.0 in
     elim (cases_lt b (a + line.length)) [
       | inl here ↦
-          let yes : stands_for b line ≡ true = grind (arith, nat_tests) in
+          let yes : covers b line ≡ true = grind (arith, nat_tests) in
           let rest = before b (a + line.length) end lines here f.2 in
           rw (yes, rest) refl
       | inr after ↦
-          let no : stands_for b line ≡ false = grind (arith, nat_tests) in
+          let no : covers b line ≡ false = grind (arith, nat_tests) in
           rw no (covered b (a + line.length) end lines after lt f.2)
     ]
 
-pub once : (words : List ℕ) (b : ℕ) → length words < 2 ^ 30 → b < 4 * length words → length (filter (stands_for b) (hunk_lines words)) ≡ 1
+pub once : (words : List ℕ) (b : ℕ) → length words < 2 ^ 30 → b < 4 * length words → length (filter (covers b) (hunk_lines words)) ≡ 1
 once words b short lt = covered b 0 (4 * length words) (hunk_lines words) (omega arith) lt (hunk_follow words short)
 
 -- ---- their texts are the listing

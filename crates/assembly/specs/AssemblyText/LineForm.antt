@@ -79,10 +79,10 @@ pub record IsNumber (part : List ℕ) (range : Range) (n : ℤ) : Type 0 where
 -- ---- what parts say
 
 -- an instruction whose name says all
-abbrev pub stands_alone : Form → Bool
-stands_alone (Plain k) = true
-stands_alone Switch = true
-stands_alone _ = false
+abbrev pub has_name_alone : Form → Bool
+has_name_alone (Plain k) = true
+has_name_alone Switch = true
+has_name_alone _ = false
 
 -- the name of each directive, as a line has it
 abbrev pub directive_name : Directive → List ℕ
@@ -102,7 +102,7 @@ global_range = record { low = pos 1; high = pos 1000; size = 4 }
 pub data Says : List (List ℕ) → Statement → Type 0 where
   nothing : Says [] (says.Fixed [])
   -- the name of a row of the table stands for its instruction
-  alone : {byte : ℕ} {row : Entry} → entry byte ≡ Some row → stands_alone row.form ≡ true → Says (row.name ∷ []) (says.Fixed (byte ∷ []))
+  alone : {byte : ℕ} {row : Entry} → entry byte ≡ Some row → has_name_alone row.form ≡ true → Says (row.name ∷ []) (says.Fixed (byte ∷ []))
   number : {byte : ℕ} {row : Entry} {range : Range} {operand : List ℕ} {n : ℤ} → entry byte ≡ Some row → range_of row.form ≡ Some range → IsNumber operand range n →
       Says (row.name ∷ operand ∷ []) (says.Fixed (byte ∷ low_bytes range.size (word_of n)))
   relative : {byte : ℕ} {row : Entry} {label : List ℕ} → entry byte ≡ Some row → row.form ≡ Relative → is_label label ≡ true →

@@ -32,5 +32,5 @@ Follow a end [] = a ≡ end
 Follow a end (line ∷ lines) = (line.offset ≡ a) × (1 ≤ line.length) × Follow (a + line.length) end lines
 
 -- whether the line stands for byte b
-abbrev pub stands_for : ℕ → ListedLine → Bool
-stands_for b line = nat_le line.offset b && nat_lt b (line.offset + line.length)
+abbrev pub covers : ℕ → ListedLine → Bool
+covers b line = nat_le line.offset b && nat_lt b (line.offset + line.length)

@@ -3,7 +3,7 @@ ghost use Rattle.std.specs.Prelude.{◌≡◌, ℕ, ◌∷◌, List, Option, Som
 ghost use Rattle.instruction_set.specs.InstructionTable.Operand.{HasRoom, operand_bytes};
 ghost use Rattle.instruction_set.specs.InstructionTable.Table.{Entry, entry};
 ghost use Rattle.instruction_set.specs.OperandForms.Decoded.{decoded};
-ghost use Rattle.instruction_set.specs.OperandForms.BytesAt.{StandsAt, with_number};
+ghost use Rattle.instruction_set.specs.OperandForms.BytesAt.{HasBytesAt, with_number};
 ghost use Rattle.assembly.specs.AssemblyText.InstructionOperands.{operands_with};
 ghost use Rattle.assembly.specs.AssemblyText.LineText.{statement_named};
 ghost use Rattle.assembly.specs.declared.assembly_text.statements.Statement.TheVariants.{Fixed};
@@ -19,5 +19,5 @@ pub fn instruction_law()
     ensures decoded { (code : ℕ → Option ℕ) (pc byte n : ℕ) (row : Entry) (bytes : List ℕ) →
         entry byte ≡ Some row → HasRoom row.form n →
         statement_named row.name (operands_with row.form n) ≡ Ok (Fixed bytes) →
-        StandsAt code pc bytes → decoded code pc ≡ Ok (with_number byte row n) }
+        HasBytesAt code pc bytes → decoded code pc ≡ Ok (with_number byte row n) }
 {}

@@ -4,7 +4,7 @@ ghost use Rattle.std.specs.Prelude.{◌≡◌, ℕ, ◌*◌, ◌^◌, ◌<◌, L
 ghost use Rattle.instruction_set.specs.InstructionTable.Table.{Entry, entry};
 ghost use Rattle.instruction_set.specs.OperandForms.Decoded.{decoded};
 ghost use Rattle.instruction_set.specs.declared.operand_forms.instructions.Instr.{Instr};
-ghost use Rattle.assembly.specs.ModuleListing.Cover.{Follow, hunk_lines, stands_for};
+ghost use Rattle.assembly.specs.ModuleListing.Cover.{Follow, covers, hunk_lines};
 ghost use Rattle.assembly.specs.ModuleListing.HunkListing.{lines_of_words};
 ghost use Rattle.assembly.specs.ModuleListing.Lines.{instruction_line};
 ghost use Rattle.assembly.specs.ModuleListing.Listing.{listed};
@@ -24,5 +24,5 @@ pub fn cover_law()
     ensures follow { (words : List ℕ) → length words < 2 ^ 30 →
         Follow 0 (4 * length words) (hunk_lines words) }
     ensures once { (words : List ℕ) (b : ℕ) → length words < 2 ^ 30 → b < 4 * length words →
-        length (filter (stands_for b) (hunk_lines words)) ≡ 1 }
+        length (filter (covers b) (hunk_lines words)) ≡ 1 }
 {}

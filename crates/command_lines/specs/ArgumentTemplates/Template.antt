@@ -43,13 +43,13 @@ abbrev pub has_name : List ℕ → List ℕ → Bool
 has_name word entry = list_any (λ name. str_eq_ignore_ascii_case name word) (names entry)
 
 -- a name is there once among its entry's, and in no other entry
-abbrev pub stands_once : List (List ℕ) → List ℕ → List ℕ → Bool
-stands_once all entry name =
+abbrev pub is_once : List (List ℕ) → List ℕ → List ℕ → Bool
+is_once all entry name =
     (count_by (λ other. str_eq_ignore_ascii_case other name) (names entry) == 1) && (count_by (has_name name) all == 1)
 
 -- an entry's names are names, and are nowhere else
 abbrev pub are_names : List (List ℕ) → List ℕ → Bool
-are_names all entry = list_all (λ name. is_entry_name name && stands_once all entry name) (names entry)
+are_names all entry = list_all (λ name. is_entry_name name && is_once all entry name) (names entry)
 
 -- whether it is an entry: its qualifiers and its names are lawful
 abbrev pub is_entry : List (List ℕ) → List ℕ → Bool

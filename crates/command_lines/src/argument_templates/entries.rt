@@ -3,7 +3,7 @@ ghost use Rattle.std.specs.Prelude.{◌≡◌, ◌==◌, ◌&&◌, ◌||◌, ◌
 ghost use Rattle.std.specs.List.{count_by, list_all, before_first};
 ghost use Rattle.std.specs.Char.{is_ascii_alphanumeric};
 ghost use Rattle.std.specs.Str.{str_eq_ignore_ascii_case};
-ghost use Rattle.command_lines.specs.ArgumentTemplates.Template.{entries, names, qualifiers, are_names, are_qualifiers, is_entry_name, has_name, stands_once, is_entry, is_template, is_switch, is_keyword, is_required};
+ghost use Rattle.command_lines.specs.ArgumentTemplates.Template.{entries, names, qualifiers, are_names, are_qualifiers, is_entry_name, has_name, is_once, is_entry, is_template, is_switch, is_keyword, is_required};
 ghost use Rattle.command_lines.specs.ArgumentTemplates.Answer.{IsBelow, other_named, switch_named, word_role};
 
 use crate::argument_templates::cuts::length_before;
@@ -94,7 +94,7 @@ fn are_names(template: &[u8], entry: &[u8]) -> bool
     ensures { result ≡ are_names (entries template.now) entry.now }
 {
     names(entry).split(|c| *c == b'=').all(|name| is_entry_name(name)
-        && stands_once(template, entry, name))
+        && is_once(template, entry, name))
 }
 
 // The switch that has this name.
@@ -164,8 +164,8 @@ fn has_name(word: &[u8], entry: &[u8]) -> bool
 }
 
 // Whether a name stands once among its entry's, and in no other entry.
-fn stands_once(template: &[u8], entry: &[u8], name: &[u8]) -> bool
-    ensures { result ≡ stands_once (entries template.now) entry.now name.now }
+fn is_once(template: &[u8], entry: &[u8], name: &[u8]) -> bool
+    ensures { result ≡ is_once (entries template.now) entry.now name.now }
 {
     times_in_entry(entry, name) == 1 && entries_with(template, name) == 1
 }

@@ -72,10 +72,10 @@ module _ (keys : List (ℕ × ℕ)) (words : List ℕ) (f : Files) (m : KernelMo
   pub walked : CanWalkLists words
   walked = can-walk words k.lists held-lists
 
-  pub stands-back : (p : Parts) → p.keys.keys ≡ keys → (kinds : List Bool) → length kinds ≡ length words → ((known : List ℕ) (l : Lists) → IsStoreOf words known l → MarksAll kinds known)
+  pub represents-back : (p : Parts) → p.keys.keys ≡ keys → (kinds : List Bool) → length kinds ≡ length words → ((known : List ℕ) (l : Lists) → IsStoreOf words known l → MarksAll kinds known)
       → RepresentsKernel (record (with_moment m p) { store = words; disc = f.disc; pipes = f.pipes; kinds = kinds }) k
   unfolding kernel_in
-  stands-back p same kinds size marks = record {
+  represents-back p same kinds size marks = record {
     keeper = record { lists = held-lists; knows = λ known same. marks known k.lists (store-known words known k.lists held-lists same); enough = omega (arith, size) };
     marks = size;
     image = h.image;

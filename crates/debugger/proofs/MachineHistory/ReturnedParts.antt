@@ -29,7 +29,7 @@ use Rattle.debugger.proofs.MachineHistory.ReturnedHistories.{GoesBack, goes-back
 use Rattle.debugger.proofs.MachineHistory.SteppedHistories.{kept_of}
 use Rattle.debugger.proofs.MachineHistory.FilesOfStates.{files-until}
 use Rattle.debugger.proofs.MachineHistory.FilesThen.{IsLatest, is-latest}
-use Rattle.debugger.proofs.MachineHistory.StandingParts.{bare-stands, full-come, full-stands, full-walks}
+use Rattle.debugger.proofs.MachineHistory.RepresentedParts.{bare-represents, full-come, full-represents, full-walks}
 
 -- what holds of all holds of one that is got
 all-got : {X : Type 0} (P : X → Type 0) (k : ℕ) (xs : List X) (x : X) → slice_get xs k ≡ Some x → AllByRecursion P xs → P x
@@ -123,7 +123,7 @@ pub record IsReturned (h new : Inside) (parts : Parts) (n : ℕ) (now : State) :
   pub history : IsHistory new
   pub past : (view_of new).past ≡ past_back n (view_of h).past
   pub now_is : (view_of new).now ≡ now_of (state_back n (view_of h).past now) h.keys.items
-  pub stands : RepresentsState parts (state_back n (view_of h).past now)
+  pub represents : RepresentsState parts (state_back n (view_of h).past now)
   pub sound : IsSound (state_back n (view_of h).past now)
   pub goes_on : stop_of (state_back n (view_of h).past now) ≡ None
   pub keys : keys_of parts ≡ h.keys.items
@@ -216,13 +216,13 @@ module _ (h : Inside) (k : IsHistory h) (n : ℕ) (some : 0 < n) (few : n ≤ le
 
   -- the new history, whatever it is called
   returned : (new : Inside) (parts : Parts) → new ≡ after h k n some few now → RepresentsState parts (back h k n some few now) → keys_of parts ≡ h.keys.items → IsReturned h new parts n now
-  returned new parts eq stands same =
+  returned new parts eq represents same =
       let is = state-is h k n some few now in
       record {
         history = subst IsHistory (sym eq) (returned-is h k n some few now);
         past = ap (λ (x : Inside). (view_of x).past) eq ∙ returned-past h k n some few now;
         now_is = ap (λ (x : Inside). (view_of x).now) eq ∙ returned-now h k n some few now ∙ ap (λ s. now_of s h.keys.items) (sym is);
-        stands = subst (RepresentsState parts) (sym is) stands;
+        represents = subst (RepresentsState parts) (sym is) represents;
         sound = subst IsSound (sym is) (member-of h k n some few now).sound;
         goes_on = ap stop_of is ∙ back-goes h k n some few now;
         keys = same;
@@ -237,7 +237,7 @@ module _ (h : Inside) (k : IsHistory h) (n : ℕ) (some : 0 < n) (few : n ≤ le
       let steps : q.step ≡ number side = ap (λ (x : BareParts). x.step) parts ∙ bare-step h.keys.items words stood side p bare in
       returned (record { journal = j; files = h.files; steps = q.step; keys = h.keys }) (BareMachine q)
       (λ i. record { journal = journal_is i; files = sym (no-files h.files (number side) none) i; steps = steps i; keys = h.keys })
-      (subst (λ (x : BareParts). RepresentsState (BareMachine x) (back h k n some few now)) (sym parts) (bare-stands h.keys.items words stood side p bare)) (without ∙ sym (ap (λ (x : Now). x.keys) seen))
+      (subst (λ (x : BareParts). RepresentsState (BareMachine x) (back h k n some few now)) (sym parts) (bare-represents h.keys.items words stood side p bare)) (without ∙ sym (ap (λ (x : Now). x.keys) seen))
 
   -- what the parts of a machine with a kernel need to go back
   module _ (p : KernelParts) (keys : List (ℕ × ℕ)) (st : RepresentsState (FullMachine p) now) (seen : (view_of h).now ≡ now_of now keys) (same : p.keys.keys ≡ keys) where
@@ -273,11 +273,11 @@ module _ (h : Inside) (k : IsHistory h) (n : ℕ) (some : 0 < n) (few : n ≤ le
         let count : length p.kinds ≡ length words = marks-count p now st ∙ ap length words-before ∙ sym member.size in
         let ring = ring-latest h.keys.items (length h.journal.words) h.files b has.is (number side) (take (length h.journal.past - n) h.journal.past) (goes h k n some few now).rest in
         let marked : (known : List ℕ) (l : Lists) → IsStoreOf words known l → MarksAll q.kinds known =
-        λ known l stands. marks known l (subst (λ s. IsStoreOf s known l) (sym store) stands) (ap length store ∙ sym count) in
+        λ known l represents. marks known l (subst (λ s. IsStoreOf s known l) (sym store) represents) (ap length store ∙ sym count) in
         returned (record { journal = j; files = f; steps = q.step; keys = h.keys }) (FullMachine q)
         (λ i. record { journal = journal_is i; files = (files_is ∙ ap (λ m. files_back m h.files) steps) i; steps = steps i; keys = h.keys })
         (subst (λ (x : KernelParts). RepresentsState (FullMachine x) (back h k n some few now)) (sym parts)
-        (full-stands h.keys.items words stood side member.holds member.sound full b p q.kinds ring.0 ring.1 same-keys (size ∙ count) marked))
+        (full-represents h.keys.items words stood side member.holds member.sound full b p q.kinds ring.0 ring.1 same-keys (size ∙ count) marked))
         (ap (λ (x : KernelParts). x.keys.keys) parts ∙ full-keys side words b p ∙ same-keys)
 
 -- ---- as the caller sees it
@@ -286,7 +286,7 @@ module _ (h : Inside) (k : IsHistory h) (n : ℕ) (some : 0 < n) (few : n ≤ le
 pub record HasGone (old new : HistoryView) (parts : Parts) (n : ℕ) (now : State) (keys : List (ℕ × ℕ)) : Type 0 where
   pub past : new.past ≡ past_back n old.past
   pub now_is : new.now ≡ now_of (state_back n old.past now) keys
-  pub stands : RepresentsState parts (state_back n old.past now)
+  pub represents : RepresentsState parts (state_back n old.past now)
   pub sound : IsSound (state_back n old.past now)
   pub goes_on : stop_of (state_back n old.past now) ≡ None
   pub keys_are : keys_of parts ≡ keys
@@ -305,7 +305,7 @@ has-gone h new parts left n m now keys old seen r count view_is same seen_is lef
     record {
       past = ap (λ (v : HistoryView). v.past) seen_is ∙ r.past ∙ ap (λ k. past_back k (view_of h).past) steps ∙ past-min n (view_of h).past ∙ ap (λ (v : HistoryView). past_back n v.past) view_is;
       now_is = ap (λ (v : HistoryView). v.now) seen_is ∙ r.now_is ∙ (λ i. now_of (back i) (same i));
-      stands = subst (λ p. RepresentsState p (state_back n old.past now)) (sym left_is) (subst (RepresentsState parts) back r.stands);
+      represents = subst (λ p. RepresentsState p (state_back n old.past now)) (sym left_is) (subst (RepresentsState parts) back r.represents);
       sound = subst IsSound back r.sound;
       goes_on = sym (ap stop_of back) ∙ r.goes_on;
       keys_are = ap keys_of left_is ∙ r.keys ∙ same;

@@ -6,9 +6,9 @@ use Rattle.instruction_set.specs.InstructionTable.Table.{Entry}
 use Rattle.instruction_set.specs.declared.operand_forms.instructions.Instr.{Instr}
 
 -- the bytes are in the code from an address on
-abbrev pub StandsAt : (ℕ → Option ℕ) → ℕ → List ℕ → Type 0
-StandsAt code a [] = Unit {0}
-StandsAt code a (b ∷ bs) = (code a ≡ Some b) × StandsAt code (add a 1) bs
+abbrev pub HasBytesAt : (ℕ → Option ℕ) → ℕ → List ℕ → Type 0
+HasBytesAt code a [] = Unit {0}
+HasBytesAt code a (b ∷ bs) = (code a ≡ Some b) × HasBytesAt code (add a 1) bs
 
 -- the instruction of a function byte and its row, with a number
 abbrev pub with_number : ℕ → Entry → ℕ → Instr

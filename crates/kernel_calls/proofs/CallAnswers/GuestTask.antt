@@ -5,7 +5,7 @@ use Rattle.kernel_lists.specs.OwnedWords.Owned.{Holds}
 use Rattle.kernel_model.specs.KernelRecord.HoldsLists.{HoldsLists}
 use Rattle.kernel_model.specs.KernelRecord.Lists.{Lists}
 use Rattle.kernel_model.specs.KernelRecord.Task.{Task, is_guest_id, state_word, state_words, task_address, task_id, task_words}
-use Rattle.kernel_model.specs.KernelRecord.ValidTasks.{CoroutinesStand, IsTask}
+use Rattle.kernel_model.specs.KernelRecord.ValidTasks.{AreValidCoroutines, IsTask}
 use Rattle.kernel_model.proofs.KernelRecord.AllThings.{all-here}
 use Rattle.kernel_model.proofs.KernelRecord.EachMember.{holds-each}
 use Rattle.kernel_model.proofs.KernelRecord.ReadCoroutines.{holds-task}
@@ -30,7 +30,7 @@ pub record GuestFacts (s : List ℕ) (l : Lists) (id address : ℕ) (t : Task) :
   pub state : get_or s (address + 4) 0 ≡ state_word t
   pub flags : get_or s (address + 5) 0 ≡ t.flags
   pub task : IsTask l t
-  pub coroutines : CoroutinesStand l t
+  pub coroutines : AreValidCoroutines l t
   pub guest : is_guest_id t.id ≡ true
   pub bit : eqb (get_or s (address + 4) 0 / 2 % 2) 1 ≡ t.held
 
@@ -44,7 +44,7 @@ guest-facts s l id address h g =
       state = state;
       flags = ap (λ a. get_or s (a + 5) 0) (sym g.at) ∙ words.1.0;
       task = task;
-      coroutines = all-here (CoroutinesStand l) g.front t g.back (subst (AllByRecursion (CoroutinesStand l)) g.is h.valid.coroutines);
+      coroutines = all-here (AreValidCoroutines l) g.front t g.back (subst (AllByRecursion (AreValidCoroutines l)) g.is h.valid.coroutines);
       guest = ap is_guest_id g.number ∙ accepted-guest l id address g;
       bit = ap (λ w. eqb (w / 2 % 2) 1) state ∙ state-held t task.field;
     }

@@ -10,7 +10,7 @@ use Rattle.kernel_lists.specs.OwnedWords.LinkedWords.{first_of}
 use Rattle.kernel_lists.specs.OwnedWords.Owned.{Pairs, owners}
 use Rattle.kernel_lists.proofs.OwnedWords.Exchanges.{exchange-right}
 use Rattle.kernel_lists.specs.PacketQueue.QueueWords.{queue_words}
-use Rattle.kernel_lists.specs.Coroutines.CoroutineExchanges.{HoldsCoroutines, Rewrites, TaskCoroutines, standing, words_of_coroutines}
+use Rattle.kernel_lists.specs.Coroutines.CoroutineExchanges.{HoldsCoroutines, Rewrites, TaskCoroutines, pairs_in, words_of_coroutines}
 use Rattle.kernel_lists.specs.Coroutines.Coroutines.{HasCoroutines}
 use Rattle.kernel_lists.specs.Coroutines.HeldCoroutines.{address_of}
 use Rattle.kernel_lists.proofs.Coroutines.HeldCoroutineLists.{held-coroutines}
@@ -22,7 +22,7 @@ use Rattle.kernel_model.specs.KernelRecord.Lists.{Lists}
 use Rattle.kernel_model.specs.KernelRecord.Owned.{owned}
 use Rattle.kernel_model.specs.KernelRecord.Task.{Task, fault_words, is_guest_id, name_words, queue_head, state_words, task_address, task_id, task_words}
 use Rattle.kernel_model.specs.KernelRecord.ValidLists.{AreValid}
-use Rattle.kernel_model.specs.KernelRecord.ValidTasks.{CoroutinesStand, IsTask}
+use Rattle.kernel_model.specs.KernelRecord.ValidTasks.{AreValidCoroutines, IsTask}
 use Rattle.kernel_model.proofs.KernelRecord.AllThings.{all-here}
 use Rattle.kernel_model.proofs.KernelRecord.ChangedLists.{exchange-owned, one_task-owned, owners-exchanged}
 use Rattle.kernel_model.proofs.KernelRecord.OneTask.{same_task-valid}
@@ -34,9 +34,9 @@ use Rattle.kernel_calls.proofs.CallAnswers.GuestTask.{guest-changed}
 use Rattle.kernel_calls.specs.CoroutineCalls.CallersCoroutines.{coroutines_of_caller, with_callers, with_changed}
 
 -- what stands at these addresses has the same owners
-owners-standing : (s : List ℕ) (new : Pairs) (a : ℕ) → owners a (standing s new) ≡ owners a new
-owners-standing s [] a = refl
-owners-standing s (e ∷ es) a = omega (arith, owners-standing s es a)
+owners-pairs_in : (s : List ℕ) (new : Pairs) (a : ℕ) → owners a (pairs_in s new) ≡ owners a new
+owners-pairs_in s [] a = refl
+owners-pairs_in s (e ∷ es) a = omega (arith, owners-pairs_in s es a)
 
 -- the words of a task with other coroutines
 pub task-exchange : (version : ℕ) (t : Task) (k : TaskCoroutines) (n : ℕ) (old new : Pairs) → Exchange (words_of_coroutines t.address t.coroutines) (words_of_coroutines t.address k) old new
@@ -69,10 +69,10 @@ module _ (s : List ℕ) (l : Lists) (address : ℕ) (h : HoldsLists s l) (g : Gu
       (all-here (λ t. HoldsCoroutines s t.address t.coroutines) g.front g.task g.back (subst (AllByRecursion (λ t. HoldsCoroutines s t.address t.coroutines)) g.is (reads s l h).coroutines))
 
   pub callers-stood : HasCoroutines s address
-  callers-stood = (held-coroutines s address g.task.coroutines.active g.task.coroutines.list callers-held.coroutines).stand
+  callers-stood = (held-coroutines s address g.task.coroutines.active g.task.coroutines.list callers-held.coroutines).valid
 
-  pub callers-stand : CoroutinesStand l g.task
-  callers-stand = all-here (CoroutinesStand l) g.front g.task g.back (subst (AllByRecursion (CoroutinesStand l)) g.is h.valid.coroutines)
+  pub callers-valid : AreValidCoroutines l g.task
+  callers-valid = all-here (AreValidCoroutines l) g.front g.task g.back (subst (AllByRecursion (AreValidCoroutines l)) g.is h.valid.coroutines)
 
   pub callers-guest : is_guest_id g.task.id ≡ true
   callers-guest = ap is_guest_id g.number ∙ accepted-guest l l.running address g
@@ -95,24 +95,24 @@ module _ (s : List ℕ) (l : Lists) (address : ℕ) (h : HoldsLists s l) (g : Gu
 
   -- the words of its coroutines are written over
   pub callers-rewritten : (v : List ℕ) (change : TaskCoroutines → TaskCoroutines) (new : Pairs)
-      → map address_of (change g.task.coroutines).list ≡ coroutine_addresses g.task → CoroutinesStand l (with_changed change g.task)
+      → map address_of (change g.task.coroutines).list ≡ coroutine_addresses g.task → AreValidCoroutines l (with_changed change g.task)
       → Rewrites s v (words_of_coroutines address g.task.coroutines) (words_of_coroutines address (change g.task.coroutines)) new
       → AreRewritten s v l (with_callers change l)
-  callers-rewritten v change new same stand w =
+  callers-rewritten v change new same had w =
       let k : TaskCoroutines = change g.task.coroutines in
       let u : Task = with_changed change g.task in
       let m : Lists = with_tasks (g.front ++ u ∷ g.back) l in
       let valid : AreValid m =
-      same_task-valid l g.front g.back g.task u h.valid g.is (record { id = refl; address = refl; priority = refl; queue = refl; coroutines = same }) (callers-task k) stand
+      same_task-valid l g.front g.back g.task u h.valid g.is (record { id = refl; address = refl; priority = refl; queue = refl; coroutines = same }) (callers-task k) had
       in
-      let inner : Exchange (words_of_coroutines g.task.address g.task.coroutines) (words_of_coroutines g.task.address k) (standing s new) new =
-      subst (λ a. Exchange (words_of_coroutines a g.task.coroutines) (words_of_coroutines a k) (standing s new) new) (sym g.at) w.exchange
+      let inner : Exchange (words_of_coroutines g.task.address g.task.coroutines) (words_of_coroutines g.task.address k) (pairs_in s new) new =
+      subst (λ a. Exchange (words_of_coroutines a g.task.coroutines) (words_of_coroutines a k) (pairs_in s new) new) (sym g.at) w.exchange
       in
-      let x : Exchange (owned l) (owned m) (standing s new) new =
-      one_task-owned l g.front g.task u g.back (standing s new) new g.is refl refl (task-exchange l.version g.task k (first_of task_address g.back 0) (standing s new) new inner)
+      let x : Exchange (owned l) (owned m) (pairs_in s new) new =
+      one_task-owned l g.front g.task u g.back (pairs_in s new) new g.is refl refl (task-exchange l.version g.task k (first_of task_address g.back 0) (pairs_in s new) new inner)
       in
       subst (λ ts. AreRewritten s v l (with_tasks ts l)) (sym (callers-between change))
       (record {
-        lists = exchange-owned s v l m (standing s new) new h valid refl x w.writes;
-        same = λ a. sym (owners-exchanged (owned l) (owned m) (standing s new) new a x (owners-standing s new a));
+        lists = exchange-owned s v l m (pairs_in s new) new h valid refl x w.writes;
+        same = λ a. sym (owners-exchanged (owned l) (owned m) (pairs_in s new) new a x (owners-pairs_in s new a));
       })

@@ -32,7 +32,7 @@ use Rattle.kernel_calls.specs.CoroutineCalls.CallCo.{idle_tests}
 use Rattle.kernel_calls.specs.CoroutineCalls.CallersCoroutines.{coroutines_of_caller}
 use Rattle.kernel_calls.specs.CoroutineCalls.DeleteCo.{IsRoomy, delete_tests, deleteco, with_deleted_at}
 use Rattle.kernel_calls.specs.CoroutineCalls.Refusals.{coded}
-use Rattle.kernel_calls.proofs.CoroutineCalls.CallersTask.{callers-found, callers-held, callers-stand}
+use Rattle.kernel_calls.proofs.CoroutineCalls.CallersTask.{callers-found, callers-held, callers-valid}
 use Rattle.kernel_calls.proofs.CoroutineCalls.CodedAnswers.{IsIdle, idle-coded, idle-passed}
 use Rattle.kernel_calls.proofs.CoroutineCalls.GoneCoroutine.{OneOf, deleted-changed, deleted-less, one-of, packet-none, packet-some}
 
@@ -93,7 +93,7 @@ module _ (s : List ℕ) (tells : List ℕ → Type 0) (room : ℕ) (l : Lists) (
     pub block-there : (b : Block) × IsRoomy l c b
     block-there =
         let o : OneOf c own.list = one-of c own.list is_idle.known in
-        let i : IsCoroutine l o.one = all-here (IsCoroutine l) o.front o.one o.back (subst (AllByRecursion (IsCoroutine l)) o.is (callers-stand s l t k.lists g).each) in (
+        let i : IsCoroutine l o.one = all-here (IsCoroutine l) o.front o.one o.back (subst (AllByRecursion (IsCoroutine l)) o.is (callers-valid s l t k.lists g).each) in (
           used_block i.block.start (need o.one.highest),
           record { used = ap (λ a. used_at a l.blocks) (sym o.at) ∙ i.block.block; room = large o.one.highest i.high },
         )

@@ -51,7 +51,7 @@ use Rattle.kernel_calls.specs.CallAnswers.Guests.{GuestAt}
 use Rattle.kernel_calls.proofs.CallAnswers.FoundTask.{reads}
 use Rattle.kernel_calls.specs.CoroutineCalls.CallersCoroutines.{has_parent, is_one_of, with_callers}
 use Rattle.kernel_calls.specs.CoroutineCalls.DeleteCo.{IsRoomy, with_deleted, with_deleted_at}
-use Rattle.kernel_calls.proofs.CoroutineCalls.CallersTask.{callers-between, callers-held, callers-stand, task-exchange}
+use Rattle.kernel_calls.proofs.CoroutineCalls.CallersTask.{callers-between, callers-held, callers-valid, task-exchange}
 
 -- ---- one of the coroutines in its place
 
@@ -113,7 +113,7 @@ module _ (s : List ℕ) (l : Lists) (t : ℕ) (h : HoldsLists s l) (g : GuestAt 
       let list : IsListAt s coroutine_link coroutine_size (t + 17) (map address_of own.list) =
       held-list address_of (coroutine_words t own.active) coroutine_link coroutine_size (are_coroutines s t own.active) s (t + 17) own.list held.coroutines.held
       in
-      subst IsApart list.list (nodes-apart s coroutine_link coroutine_size (t + 17) (list_at s coroutine_link (t + 17)) list.stands)
+      subst IsApart list.list (nodes-apart s coroutine_link coroutine_size (t + 17) (list_at s coroutine_link (t + 17)) list.valid)
 
   abbrev left : List Coroutine
   left = o.front ++ o.back
@@ -205,7 +205,7 @@ module _ (s : List ℕ) (l : Lists) (t : ℕ) (h : HoldsLists s l) (g : GuestAt 
         -- its block, as the store has it once it was unlinked
         still-used : used_at c (blocks_in x.unlinked) ≡ Some (used_block x.start (need o.one.highest))
         still-used =
-            let i : IsCoroutine l o.one = all-here (IsCoroutine l) o.front o.one o.back (subst (AllByRecursion (IsCoroutine l)) o.is (callers-stand s l t h g).each) in
+            let i : IsCoroutine l o.one = all-here (IsCoroutine l) o.front o.one o.back (subst (AllByRecursion (IsCoroutine l)) o.is (callers-valid s l t h g).each) in
             let start : i.block.start ≡ x.start = omega (arith, i.block.here, x.here) in
             ap (used_at c) (reads x.unlinked m gone.lists).blocks ∙ ap (λ a. used_at a l.blocks) (sym o.at) ∙ i.block.block ∙ ap (λ a. Some (used_block a (need o.one.highest))) start
 

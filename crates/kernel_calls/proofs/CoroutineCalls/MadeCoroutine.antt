@@ -97,8 +97,8 @@ module _ (s : List ℕ) (l : Lists) (t : ℕ) (h : HoldsLists s l) (g : GuestAt 
       held : HoldsCoroutines s t own
       held = callers-held s l t h g
 
-      stand : Built s t (map address_of own.list) own.active
-      stand = held-coroutines s t own.active own.list held.coroutines
+      had : Built s t (map address_of own.list) own.active
+      had = held-coroutines s t own.active own.list held.coroutines
 
       some-none : {b : Block} → Some b ≡ None → ⊥
       some-none e = cc
@@ -106,7 +106,7 @@ module _ (s : List ℕ) (l : Lists) (t : ℕ) (h : HoldsLists s l) (g : GuestAt 
       on : (b : Bool) → has c own.active ≡ b → b ≡ false
       on false e = refl
       on true e =
-          absurd (some-none (sym (known-block s t c stand.stand (ap (has c) stand.list ∙ all-has (λ a. has a (map address_of own.list) ≡ true) c own.active held.coroutines.members e)).block
+          absurd (some-none (sym (known-block s t c had.valid (ap (has c) had.list ∙ all-has (λ a. has a (map address_of own.list) ≡ true) c own.active held.coroutines.members e)).block
           ∙ (after_take s made.taken (highest u) c held.coroutines.tiled made.block).was_none))
 
   writes : v ≡ written new made.taken

@@ -25,7 +25,7 @@ use Rattle.kernel_model.specs.KernelRecord.BlockUse.{coroutine_addresses}
 use Rattle.kernel_model.specs.KernelRecord.HoldsLists.{HoldsLists}
 use Rattle.kernel_model.specs.KernelRecord.Lists.{Lists}
 use Rattle.kernel_model.specs.KernelRecord.Task.{Task}
-use Rattle.kernel_model.specs.KernelRecord.ValidTasks.{CoroutinesStand, IsCoroutine}
+use Rattle.kernel_model.specs.KernelRecord.ValidTasks.{AreValidCoroutines, IsCoroutine}
 use Rattle.kernel_model.proofs.KernelRecord.ChangedLists.{changed-none}
 use Rattle.kernel_calls.specs.CallAnswers.Guests.{GuestAt}
 use Rattle.kernel_calls.specs.CallAnswers.Refusals.{first_refusal}
@@ -36,7 +36,7 @@ use Rattle.kernel_calls.specs.CoroutineCalls.CoWait.{IsWithin, cowait, ended, wa
 use Rattle.kernel_calls.specs.CoroutineCalls.Refusals.{code_of, coded}
 use Rattle.kernel_calls.specs.CoroutineCalls.ResumeCo.{resume_tests, resumeco, resumed_itself}
 use Rattle.kernel_calls.specs.CoroutineCalls.Switched.{IsSwitched, Switched, by_refusal, refused, entered, handed, switched, unless_refused}
-use Rattle.kernel_calls.proofs.CoroutineCalls.CallersTask.{AreRewritten, callers-found, callers-held, callers-rewritten, callers-stand}
+use Rattle.kernel_calls.proofs.CoroutineCalls.CallersTask.{AreRewritten, callers-found, callers-held, callers-rewritten, callers-valid}
 use Rattle.kernel_calls.proofs.CoroutineCalls.CodedAnswers.{idle-coded, resume-coded, wait-coded, wait-passed}
 use Rattle.kernel_calls.proofs.CoroutineCalls.SavedFrames.{first-one, regs-read}
 
@@ -54,11 +54,11 @@ each-framed l d p pc (x ∷ xs) all = (record { block = all.0.block; high = all.
 abbrev pub switched_to : ℕ → ℕ → List ℕ → TaskCoroutines → TaskCoroutines
 switched_to p pc act k = record (with_saved p pc k) { active = act }
 
-stand-switched : (l : Lists) (t : Task) (p pc : ℕ) (act : List ℕ) → CoroutinesStand l t → AllByRecursion (λ c. has c (coroutine_addresses t) ≡ true) act → IsApart act
-    → CoroutinesStand l (with_changed (switched_to p pc act) t)
-stand-switched l t p pc act stand members apart =
+switched-valid : (l : Lists) (t : Task) (p pc : ℕ) (act : List ℕ) → AreValidCoroutines l t → AllByRecursion (λ c. has c (coroutine_addresses t) ≡ true) act → IsApart act
+    → AreValidCoroutines l (with_changed (switched_to p pc act) t)
+switched-valid l t p pc act had members apart =
     record {
-      each = each-framed l (current_of t.coroutines) p pc t.coroutines.list stand.each;
+      each = each-framed l (current_of t.coroutines) p pc t.coroutines.list had.each;
       members = subst (λ ads. AllByRecursion (λ c. has c ads ≡ true) act) (sym (addresses-framed (current_of t.coroutines) p pc t.coroutines.list)) members;
       distinct = apart;
     }
@@ -98,12 +98,12 @@ module _ (s : List ℕ) (l : Lists) (t : ℕ) (h : HoldsLists s l) (g : GuestAt 
       → IsSwitched s v l after (Ok tt) (switched change w l r)
   switch-made v after p pc x w act change new becomes b goes rewrites regs =
       let members : AllByRecursion (λ c. is_one_of c own ≡ true) act =
-      subst (λ ads. AllByRecursion (λ c. has c ads ≡ true) act) (b.list ∙ built.list) (subst (AllByRecursion (λ c. has c (coroutines_in v t) ≡ true)) b.active b.stand.members)
+      subst (λ ads. AllByRecursion (λ c. has c ads ≡ true) act) (b.list ∙ built.list) (subst (AllByRecursion (λ c. has c (coroutines_in v t) ≡ true)) b.active b.valid.members)
       in
-      let stand : CoroutinesStand l (with_changed (switched_to p pc act) g.task) = stand-switched l g.task p pc act (callers-stand s l t h g) members (subst IsApart b.active b.stand.distinct) in
+      let had : AreValidCoroutines l (with_changed (switched_to p pc act) g.task) = switched-valid l g.task p pc act (callers-valid s l t h g) members (subst IsApart b.active b.valid.distinct) in
       let same : map address_of (change own).list ≡ coroutine_addresses g.task = ap (λ k. map address_of k.list) becomes ∙ addresses-framed (current_of own) p pc own.list in
       let changed : AreRewritten s v l (with_callers change l) =
-      callers-rewritten s l t h g v change new same (subst (λ k. CoroutinesStand l (record g.task { coroutines = k })) (sym becomes) stand) rewrites
+      callers-rewritten s l t h g v change new same (subst (λ k. AreValidCoroutines l (record g.task { coroutines = k })) (sym becomes) had) rewrites
       in
       record {
         lists = changed.lists;
@@ -119,12 +119,12 @@ module _ (s : List ℕ) (l : Lists) (t : ℕ) (h : HoldsLists s l) (g : GuestAt 
   pub callco-made : (v : List ℕ) (after : Regs) (c w : ℕ) (answer : Result (Unit {0}) CoEnd) → answer ≡ reasons.idle_answer s t c
       → OnOk answer (v ≡ store.called s t r c) → OnOk answer (after ≡ store.entered s t r c w) → OnOk answer (active_in v t ≡ c ∷ active_in s t)
       → coroutines_in v t ≡ coroutines_in s t → HasCoroutines v t → OnErr answer ((v ≡ s) × (after ≡ r)) → IsSwitched s v l after (coded answer) (callco l r c w)
-  callco-made v after c w (Ok u) is words regs active list stand kept =
+  callco-made v after c w (Ok u) is words regs active list had kept =
       accepted-made (idle_tests c (coroutines_of_caller l)) (switched (with_called c r.p r.pc) w l r) v after
       (tests-found (idle_tests c) None (answer_of-ok (first_refusal (idle_tests c own)) tt (ap coded is ∙ idle-coded s t own held c)))
-      (switch-made v after r.p r.pc c w (c ∷ own.active) (with_called c r.p r.pc) _ refl (record { list = list; active = active ∙ ap (λ z. c ∷ z) built.active; stand = stand }) refl
+      (switch-made v after r.p r.pc c w (c ∷ own.active) (with_called c r.p r.pc) _ refl (record { list = list; active = active ∙ ap (λ z. c ∷ z) built.active; valid = had }) refl
       (subst (λ z. CallExchange s z t own c r.p r.pc) (sym words) (call-answered s t own held r c (sym is))) regs)
-  callco-made v after c w (Err e) is words regs active list stand kept =
+  callco-made v after c w (Err e) is words regs active list had kept =
       refused-made (idle_tests c (coroutines_of_caller l)) (switched (with_called c r.p r.pc) w l r) v after (code_of e)
       (tests-found (idle_tests c) (Some (code_of e)) (answer_of-err (first_refusal (idle_tests c own)) (code_of e) (ap coded is ∙ idle-coded s t own held c))) kept
 
@@ -139,27 +139,27 @@ module _ (s : List ℕ) (l : Lists) (t : ℕ) (h : HoldsLists s l) (g : GuestAt 
   resume-on : (v : List ℕ) (after : Regs) (c w : ℕ) (b : Bool) → eqb (current_of own) c ≡ b → reasons.resume_answer s t c ≡ Ok tt
       → v ≡ store.resumed s t r c → after ≡ store.resumed_regs s t r c w → active_in v t ≡ c ∷ drop 1 (active_in s t)
       → coroutines_in v t ≡ coroutines_in s t → HasCoroutines v t → IsSwitched s v l after (Ok tt) (resumes c w)
-  resume-on v after c w true e is words regs active list stand =
+  resume-on v after c w true e is words regs active list had =
       let test : eqb (current_in s t) c ≡ true = ap (λ z. eqb z c) held.coroutines.current ∙ e in
       subst (IsSwitched s v l after (Ok tt)) (sym (resumes-is c w true e))
       (subst (λ z. IsSwitched s z l after (Ok tt) (resumed_itself w l r)) (sym (words ∙ ap (λ b. cond b s (store.replaced s t r c)) test))
       (record { lists = changed-none s l h; regs = regs ∙ ap (λ b. cond b (handed w r) (store.entered s t r c w)) test; answered = refl; same = λ a. refl }))
-  resume-on v after c w false e is words regs active list stand =
+  resume-on v after c w false e is words regs active list had =
       let test : eqb (current_in s t) c ≡ false = ap (λ z. eqb z c) held.coroutines.current ∙ e in
       subst (IsSwitched s v l after (Ok tt)) (sym (resumes-is c w false e))
       (switch-made v after r.p r.pc c w (c ∷ drop 1 own.active) (with_resumed c r.p r.pc) _ (ap (λ b. cond b own (switched_to r.p r.pc (c ∷ drop 1 own.active) own)) e)
-      (record { list = list; active = active ∙ ap (λ z. c ∷ drop 1 z) built.active; stand = stand }) refl
+      (record { list = list; active = active ∙ ap (λ z. c ∷ drop 1 z) built.active; valid = had }) refl
       (subst (λ z. ResumeExchange s z t own c r.p r.pc) (sym words) (resume-answered s t own held r c is))
       (regs ∙ ap (λ b. cond b (handed w r) (store.entered s t r c w)) test))
 
   pub resumeco-made : (v : List ℕ) (after : Regs) (c w : ℕ) (answer : Result (Unit {0}) CoEnd) → answer ≡ reasons.resume_answer s t c
       → OnOk answer (v ≡ store.resumed s t r c) → OnOk answer (after ≡ store.resumed_regs s t r c w) → OnOk answer (active_in v t ≡ c ∷ drop 1 (active_in s t))
       → coroutines_in v t ≡ coroutines_in s t → HasCoroutines v t → OnErr answer ((v ≡ s) × (after ≡ r)) → IsSwitched s v l after (coded answer) (resumeco l r c w)
-  resumeco-made v after c w (Ok u) is words regs active list stand kept =
+  resumeco-made v after c w (Ok u) is words regs active list had kept =
       accepted-made (resume_tests c (coroutines_of_caller l)) (resumes c w) v after
       (tests-found (resume_tests c) None (answer_of-ok (first_refusal (resume_tests c own)) tt (ap coded is ∙ resume-coded s t own held c)))
-      (resume-on v after c w (eqb (current_of own) c) refl (sym is) words regs active list stand)
-  resumeco-made v after c w (Err e) is words regs active list stand kept =
+      (resume-on v after c w (eqb (current_of own) c) refl (sym is) words regs active list had)
+  resumeco-made v after c w (Err e) is words regs active list had kept =
       refused-made (resume_tests c (coroutines_of_caller l)) (resumes c w) v after (code_of e)
       (tests-found (resume_tests c) (Some (code_of e)) (answer_of-err (first_refusal (resume_tests c own)) (code_of e) (ap coded is ∙ resume-coded s t own held c))) kept
 
@@ -172,25 +172,25 @@ module _ (s : List ℕ) (l : Lists) (t : ℕ) (h : HoldsLists s l) (g : GuestAt 
       → v ≡ store.waited s t q qc → after ≡ store.entered s t r (current_parent s t) w → active_in v t ≡ drop 1 (active_in s t)
       → coroutines_in v t ≡ coroutines_in s t → HasCoroutines v t → Rewrites s v (words_of_coroutines t own) (words_of_coroutines t (change own)) new
       → IsSwitched s v l after (Ok tt) (switched change w l r)
-  waits-made v after q qc p pc w change new within becomes words regs active list stand rewrites =
-      let left : Built v t (coroutines_in s t) (drop 1 own.active) = record { list = list; active = active ∙ ap (drop 1) built.active; stand = stand } in
+  waits-made v after q qc p pc w change new within becomes words regs active list had rewrites =
+      let left : Built v t (coroutines_in s t) (drop 1 own.active) = record { list = list; active = active ∙ ap (drop 1) built.active; valid = had } in
       let parent : current_in v t ≡ current_parent s t =
       ap (λ z. current_in z t) words
-      ∙ still-current s (store.switched s t q qc (current_parent s t)) t (current_in s t) 0 (current_parent s t) built.stand (current s t built.stand (within-store within)).known
-      (switched-current s t q qc (current_parent s t) built.stand)
+      ∙ still-current s (store.switched s t q qc (current_parent s t)) t (current_in s t) 0 (current_parent s t) built.valid (current s t built.valid (within-store within)).known
+      (switched-current s t q qc (current_parent s t) built.valid)
       in
-      let first : current_in v t ≡ first_active (drop 1 own.active) 0 = current-first v t (drop 1 own.active) (subst (LeadsOut v t 0 (t + 18)) left.active left.stand.active) in
+      let first : current_in v t ≡ first_active (drop 1 own.active) 0 = current-first v t (drop 1 own.active) (subst (LeadsOut v t 0 (t + 18)) left.active left.valid.active) in
       switch-made v after p pc (current_parent s t) w (drop 1 own.active) change new becomes left (sym parent ∙ first) rewrites regs
 
   pub cowait-made : (v : List ℕ) (after : Regs) (w : ℕ) (answer : Result (Unit {0}) CoEnd) → answer ≡ reasons.wait_answer s t
       → OnOk answer (v ≡ store.waited s t r.p r.pc) → OnOk answer (after ≡ store.entered s t r (current_parent s t) w) → OnOk answer (active_in v t ≡ drop 1 (active_in s t))
       → coroutines_in v t ≡ coroutines_in s t → HasCoroutines v t → OnErr answer ((v ≡ s) × (after ≡ r)) → IsSwitched s v l after (coded answer) (cowait l r w)
-  cowait-made v after w (Ok u) is words regs active list stand kept =
+  cowait-made v after w (Ok u) is words regs active list had kept =
       let none : first_refusal (wait_tests own) ≡ None = answer_of-ok (first_refusal (wait_tests own)) tt (ap coded is ∙ wait-coded s t own held) in
       accepted-made (wait_tests (coroutines_of_caller l)) (switched (with_waiting r.p r.pc) w l r) v after (tests-found wait_tests None none)
-      (waits-made v after r.p r.pc r.p r.pc w (with_waiting r.p r.pc) _ (wait-passed s t own held none) refl words regs active list stand
+      (waits-made v after r.p r.pc r.p r.pc w (with_waiting r.p r.pc) _ (wait-passed s t own held none) refl words regs active list had
       (subst (λ z. WaitExchange s z t own r.p r.pc) (sym words) (wait-answered s t own held r.p r.pc (sym is))))
-  cowait-made v after w (Err e) is words regs active list stand kept =
+  cowait-made v after w (Err e) is words regs active list had kept =
       refused-made (wait_tests (coroutines_of_caller l)) (switched (with_waiting r.p r.pc) w l r) v after (code_of e)
       (tests-found wait_tests (Some (code_of e)) (answer_of-err (first_refusal (wait_tests own)) (code_of e) (ap coded is ∙ wait-coded s t own held))) kept
 
@@ -199,7 +199,7 @@ module _ (s : List ℕ) (l : Lists) (t : ℕ) (h : HoldsLists s l) (g : GuestAt 
 
   pub ended-made : (v : List ℕ) (after : Regs) → IsWithin l → v ≡ store.returned s t → after ≡ store.entered s t r (current_parent s t) r.a
       → active_in v t ≡ drop 1 (active_in s t) → coroutines_in v t ≡ coroutines_in s t → HasCoroutines v t → IsSwitched s v l after (Ok tt) (ended l r)
-  ended-made v after within words regs active list stand =
+  ended-made v after within words regs active list had =
       waits-made v after (bottom (current_in s t)) (function_in s (current_in s t)) (bottom (current_of own)) (function_of (current_of own) own.list) r.a with_ended _
-      (ap is_within (sym (callers-found s l t h g)) ∙ within) refl words regs active list stand
+      (ap is_within (sym (callers-found s l t h g)) ∙ within) refl words regs active list had
       (subst (λ z. EndExchange s z t own) (sym words) (end-answered s t own held (ended-within within)))

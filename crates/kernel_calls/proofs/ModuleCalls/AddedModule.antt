@@ -16,7 +16,7 @@ use Rattle.kernel_model.specs.KernelRecord.Lists.{Lists}
 use Rattle.kernel_model.specs.KernelRecord.Owned.{owned}
 use Rattle.kernel_model.specs.KernelRecord.Task.{Task, is_guest_id, task_address}
 use Rattle.kernel_model.specs.KernelRecord.ValidLists.{AreValid}
-use Rattle.kernel_model.specs.KernelRecord.ValidTasks.{CoroutinesStand, IsGuest, IsTask}
+use Rattle.kernel_model.specs.KernelRecord.ValidTasks.{AreValidCoroutines, IsGuest, IsTask}
 use Rattle.kernel_model.specs.KernelRecord.Versions.{head_words_of, most_modules_of}
 use Rattle.kernel_model.proofs.KernelRecord.ChangedLists.{exchange-owned, one_task-owned}
 use Rattle.kernel_model.proofs.KernelRecord.OneTask.{owned-one_task, same_task-valid}
@@ -90,7 +90,7 @@ module _ (s : List ℕ) (l : Lists) (id address m count : ℕ) (h : HoldsLists s
         resident = λ resident. (let guest : is_guest_id g.task.id ≡ true = (facts s l id address h g).guest in cc);
       }
 
-  coroutines : CoroutinesStand l u
+  coroutines : AreValidCoroutines l u
   coroutines = (let c = (facts s l id address h g).coroutines in record { each = c.each; members = c.members; distinct = c.distinct })
 
   valid : AreValid after

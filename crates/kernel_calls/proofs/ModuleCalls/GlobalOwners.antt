@@ -29,7 +29,7 @@ use Rattle.kernel_model.specs.KernelRecord.Residents.{fault_packet, keyboard, fa
 use Rattle.kernel_model.specs.KernelRecord.Task.{Task, is_guest_id, task_address, task_words}
 use Rattle.kernel_model.specs.KernelRecord.ValidBlocks.{HasBlock, last_module_word, last_resident_word}
 use Rattle.kernel_model.specs.KernelRecord.ValidLists.{AreValid}
-use Rattle.kernel_model.specs.KernelRecord.ValidTasks.{CoroutinesStand, IsCoroutine, IsGuest, IsTask, resident_place}
+use Rattle.kernel_model.specs.KernelRecord.ValidTasks.{AreValidCoroutines, IsCoroutine, IsGuest, IsTask, resident_place}
 use Rattle.kernel_model.specs.KernelRecord.Versions.{head_words_of}
 use Rattle.kernel_model.proofs.KernelRecord.AllThings.{all-beside, all-between, all-here, all-pieces}
 use Rattle.kernel_model.proofs.KernelRecord.BlockStarts.{store-Tiles, store_of}
@@ -214,7 +214,7 @@ module _ (l : Lists) (v : AreValid l) (front : List Task) (t : Task) (back : Lis
     record IsOther (u : Task) : Type 0 where
       pub task : IsTask l u
       pub there : has_task u.id l.tasks ≡ true
-      pub coroutines : CoroutinesStand l u
+      pub coroutines : AreValidCoroutines l u
       pub free : AllByRecursion Free u.queue
       pub elsewhere : (n : ℕ) → owners at (task_words l.version u n) ≡ 0
 
@@ -256,7 +256,7 @@ module _ (l : Lists) (v : AreValid l) (front : List Task) (t : Task) (back : Lis
         A u = IsTask l u × (has_task u.id l.tasks ≡ true)
 
         B : Task → Type 0
-        B u = CoroutinesStand l u × AllByRecursion Free u.queue
+        B u = AreValidCoroutines l u × AllByRecursion Free u.queue
 
         C : Task → Type 0
         C u = (n : ℕ) → owners at (task_words l.version u n) ≡ 0
@@ -265,7 +265,7 @@ module _ (l : Lists) (v : AreValid l) (front : List Task) (t : Task) (back : Lis
         all =
             all-each (λ u. A u × (B u × C u)) IsOther (λ u h. record { task = h.0.0; there = h.0.1; coroutines = h.1.0.0; free = h.1.0.1; elsewhere = h.1.1 }) (front ++ back)
             (all-both A (λ u. B u × C u) (front ++ back) (beside A (all-both (IsTask l) (λ u. has_task u.id l.tasks ≡ true) l.tasks v.tasks.each (has-each l.tasks)))
-            (all-both B C (front ++ back) (beside B (all-both (CoroutinesStand l) (λ u. AllByRecursion Free u.queue) l.tasks v.coroutines free-work))
+            (all-both B C (front ++ back) (beside B (all-both (AreValidCoroutines l) (λ u. AllByRecursion Free u.queue) l.tasks v.coroutines free-work))
             (none-each at task_address (task_words l.version) (λ x n k. refl) (front ++ back) 0 alone.tasks)))
 
     own-none : owners a (task_words l.version t 0) ≡ 0
@@ -274,7 +274,7 @@ module _ (l : Lists) (v : AreValid l) (front : List Task) (t : Task) (back : Lis
         by _ _ _ _ _ (owners-task_by a l.version t 0) (times-above a at 23 (omega (arith, low, head-low l.version)))
         (times-above a (at + 23) (further_count l.version t.id) (omega (arith, low, count, head-low l.version)))
         (packets-none t.queue (all-here (λ u. AllByRecursion Free u.queue) front t back (subst (AllByRecursion (λ u. AllByRecursion Free u.queue)) is free-work)))
-        (coroutines-none t.coroutines.list (all-here (CoroutinesStand l) front t back (subst (AllByRecursion (CoroutinesStand l)) is v.coroutines)).each alone.coroutines)
+        (coroutines-none t.coroutines.list (all-here (AreValidCoroutines l) front t back (subst (AllByRecursion (AreValidCoroutines l)) is v.coroutines)).each alone.coroutines)
       where
         by : (w h f p q : ℕ) → w ≡ h + (f + (p + q)) → h ≡ 0 → f ≡ 0 → p ≡ 0 → q ≡ 0 → w ≡ 0
         by w h f p q e hz fz pz qz = omega (arith, e, hz, fz, pz, qz)

@@ -19,7 +19,7 @@ use Rattle.kernel_model.specs.KernelRecord.HoldsLists.{HoldsLists}
 use Rattle.kernel_model.specs.KernelRecord.Lists.{Lists, address_of_task}
 use Rattle.kernel_model.specs.KernelRecord.Owned.{OwnsApart, owned}
 use Rattle.kernel_model.specs.KernelRecord.ValidLists.{AreValid}
-use Rattle.kernel_model.specs.KernelRecord.ValidQueues.{MayStand, Place}
+use Rattle.kernel_model.specs.KernelRecord.ValidQueues.{IsValidPacket, Place}
 use Rattle.kernel_model.specs.KernelRecord.ValidQueues.Place.{Clock, Keyboard, Output, Pending, Work}
 use Rattle.kernel_model.specs.KernelRecord.ValidTasks.{IsField, IsTask}
 use Rattle.kernel_model.proofs.KernelRecord.AllThings.{all-beside}
@@ -27,7 +27,7 @@ use Rattle.kernel_model.proofs.KernelRecord.EachMember.{all-each}
 use Rattle.kernel_model.proofs.KernelRecord.OwnerCounts.{owners-packet_between, owns-fewer, packets_count}
 use Rattle.kernel_model.proofs.KernelRecord.PacketMoves.{unqueued-unowned}
 use Rattle.kernel_model.proofs.KernelRecord.QueueCounts.{owned-queue, owners-packet}
-use Rattle.kernel_model.proofs.KernelRecord.QueuePlaces.{place-stands, place-there, with_queue-size}
+use Rattle.kernel_model.proofs.KernelRecord.QueuePlaces.{place-there, valid-at-place, with_queue-size}
 use Rattle.kernel_model.proofs.KernelRecord.ReadQueues.{packets-some}
 use Rattle.kernel_calls.specs.PacketCalls.Destinations.{queue_for}
 use Rattle.kernel_calls.specs.PacketCalls.QueueWords.{head_of, unqueued, state_left}
@@ -49,7 +49,7 @@ next-after s head front p back held =
           record {
             holds = held.holds;
             exchange = x;
-            stands = tt;
+            there = tt;
             apart = λ a. omega (arith, x.first.count a, x.then'.count a, held.apart a);
             inside = λ a some. held.inside a (omega (arith, some, x.first.count a, x.then'.count a));
             unowned = λ a some. omega (arith, some, x.first.count a, x.then'.count a, held.apart a);
@@ -77,11 +77,11 @@ module _ (s : List ℕ) (l : Lists) (at : Place) (p : QueuedPacket) (front back 
   has : HasPlace l at
   has = place-there l at front p back h.valid is
 
-  stand : AllByRecursion (MayStand l at) (front ++ p ∷ back)
-  stand = subst (AllByRecursion (MayStand l at)) is (place-stands l at h.valid has)
+  valid-packets : AllByRecursion (IsValidPacket l at) (front ++ p ∷ back)
+  valid-packets = subst (AllByRecursion (IsValidPacket l at)) is (valid-at-place l at h.valid has)
 
   some : AllByRecursion (λ q. 0 < q.address) (front ++ p ∷ back)
-  some = packets-some l at (front ++ p ∷ back) stand
+  some = packets-some l at (front ++ p ∷ back) valid-packets
 
   whole : Exchange (owned l) (owned m) (st (front ++ p ∷ back) ++ queue_words hd (front ++ p ∷ back)) (st (front ++ back) ++ queue_words hd (front ++ back))
   whole =
@@ -167,7 +167,7 @@ module _ (s : List ℕ) (l : Lists) (at : Place) (p : QueuedPacket) (front back 
               exchange =
                   subst (Exchange (owned l) (owned m) (st (front ++ p ∷ back) ++ ((link, p.address) ∷ packet_words p (first_packet back))))
                   (sym (append-nil (st (front ++ back) ++ (link, first_packet back) ∷ []))) moved;
-              stands = tt;
+              there = tt;
               apart = owns.apart;
               inside = λ a some. omega (arith, owns.inside a some, with_queue-size at (front ++ back) l, h.size);
               unowned = λ a one. unqueued-unowned l at p front back h.valid is a (at-packet a one).0 (at-packet a one).1;

@@ -28,11 +28,11 @@ use Rattle.kernel_calls.specs.CallAnswers.Refusals.{first_refusal}
 use Rattle.kernel_calls.proofs.CallAnswers.MadeCalls.{made-accepted, made-refused}
 use Rattle.kernel_calls.specs.PacketCalls.Destinations.{is_destination, queue_for}
 use Rattle.kernel_calls.specs.PacketCalls.Dqpkt.{Search, dequeued, dqpkt, dqpkt_tests, found_in, is_residents_packet, searches}
-use Rattle.kernel_calls.specs.PacketCalls.PacketMoves.{departed, stands_in}
+use Rattle.kernel_calls.specs.PacketCalls.PacketMoves.{departed, is_on_queue}
 use Rattle.kernel_calls.specs.PacketCalls.QueueWords.{head_of, unqueued}
 use Rattle.kernel_calls.specs.declared.packet_calls.dequeue.Found.{Found}
 use Rattle.kernel_calls.proofs.PacketCalls.Departure.{departed-changed, owners-departed, packet-inside}
-use Rattle.kernel_calls.proofs.PacketCalls.HeldPlaces.{StandsBetween, has-at, stands-at, stands-between}
+use Rattle.kernel_calls.proofs.PacketCalls.HeldPlaces.{IsQueuedBetween, between-parts, has-at, valid-at}
 use Rattle.kernel_calls.proofs.PacketCalls.KeptWords.{changed-plain}
 use Rattle.word_store.proofs.Elements.{find-passes}
 use Rattle.kernel_calls.proofs.PacketCalls.Searches.{IsFound}
@@ -67,8 +67,8 @@ module _ (s : List ℕ) (tells : List ℕ → Type 0) (room : ℕ) (l : Lists) (
     pub some-found : is_some (found_in l id p) ≡ true
     some-found = ap is_some x.found
 
-    between : StandsBetween p (queue_of w.place l)
-    between = stands-between p (queue_of w.place l) (find-passes (λ z. stands_in p (queue_of z.place l)) (searches l id) w x.found)
+    between : IsQueuedBetween p (queue_of w.place l)
+    between = between-parts p (queue_of w.place l) (find-passes (λ z. is_on_queue p (queue_of z.place l)) (searches l id) w x.found)
 
     abbrev q : QueuedPacket
     q = between.packet
@@ -77,12 +77,12 @@ module _ (s : List ℕ) (tells : List ℕ → Type 0) (room : ℕ) (l : Lists) (
     place = place-there l w.place between.front q between.back k.lists.valid between.is
 
     pub found-queue : HasQueue s (head_of f.queue)
-    found-queue = subst (λ (z : Found). HasQueue s (head_of z.queue)) (sym x.located) (stands-at s l w.place k.lists place)
+    found-queue = subst (λ (z : Found). HasQueue s (head_of z.queue)) (sym x.located) (valid-at s l w.place k.lists place)
 
     pub found-packet : has p (queue_at s (head_of f.queue)) ≡ true
     found-packet =
         subst (λ (z : Found). has p (queue_at s (head_of z.queue)) ≡ true) (sym x.located)
-        (has-at s l w.place k.lists place p ∙ find-passes (λ z. stands_in p (queue_of z.place l)) (searches l id) w x.found)
+        (has-at s l w.place k.lists place p ∙ find-passes (λ z. is_on_queue p (queue_of z.place l)) (searches l id) w x.found)
 
     -- it may be taken back
     module _ (names : is_destination l id ≡ true) (plain : is_residents_packet l p ≡ false) where

@@ -15,15 +15,15 @@ use Rattle.kernel_model.specs.KernelRecord.HoldsLists.{HoldsLists}
 use Rattle.kernel_model.specs.KernelRecord.Lists.{Lists}
 use Rattle.kernel_model.specs.KernelRecord.Owned.{owned}
 use Rattle.kernel_model.specs.KernelRecord.ValidQueues.{Place}
-use Rattle.kernel_model.proofs.KernelRecord.QueuePlaces.{place-stands}
+use Rattle.kernel_model.proofs.KernelRecord.QueuePlaces.{valid-at-place}
 use Rattle.kernel_model.proofs.KernelRecord.ReadQueues.{packets-some}
 use Rattle.kernel_calls.specs.PacketCalls.Destinations.{queue_for}
-use Rattle.kernel_calls.specs.PacketCalls.PacketMoves.{departed, stands_in}
+use Rattle.kernel_calls.specs.PacketCalls.PacketMoves.{departed, is_on_queue}
 use Rattle.kernel_calls.specs.PacketCalls.QueueWords.{head_of}
 use Rattle.kernel_calls.proofs.PacketCalls.PlaceWords.{place-exchange, state_pairs}
 
 -- a packet among the addresses
-has-address : (p : ℕ) (ps : List QueuedPacket) → has p (map address_of ps) ≡ stands_in p ps
+has-address : (p : ℕ) (ps : List QueuedPacket) → has p (map address_of ps) ≡ is_on_queue p ps
 has-address p [] = refl
 has-address p (q ∷ qs) = ap (λ b. eqb p q.address || b) (has-address p qs)
 
@@ -43,20 +43,20 @@ module _ (s : List ℕ) (l : Lists) (at : Place) (h : HoldsLists s l) (has-place
         holds = Holds-right s (state_pairs l at (queue_of at l)) own (itself.first.opens s h.holds).1;
         apart = λ a. omega (arith, count a, h.valid.owns.apart a);
         inside = λ a some. omega (arith, h.size, h.valid.owns.inside a (omega (arith, some, count a)));
-        some = packets-some l at (queue_of at l) (place-stands l at h.valid has-place);
+        some = packets-some l at (queue_of at l) (valid-at-place l at h.valid has-place);
       }
 
   pub queue-at : queue_at s (head_of (queue_for l at)) ≡ map address_of (queue_of at l)
   queue-at = (held-queue s (head_of (queue_for l at)) (queue_of at l) held-at).list
 
-  pub stands-at : HasQueue s (head_of (queue_for l at))
-  stands-at = (held-queue s (head_of (queue_for l at)) (queue_of at l) held-at).stands
+  pub valid-at : HasQueue s (head_of (queue_for l at))
+  valid-at = (held-queue s (head_of (queue_for l at)) (queue_of at l) held-at).valid
 
-  pub has-at : (p : ℕ) → has p (queue_at s (head_of (queue_for l at))) ≡ stands_in p (queue_of at l)
+  pub has-at : (p : ℕ) → has p (queue_at s (head_of (queue_for l at))) ≡ is_on_queue p (queue_of at l)
   has-at p = ap (has p) queue-at ∙ has-address p (queue_of at l)
 
 -- a packet that is on a queue stands between two parts of it
-pub record StandsBetween (p : ℕ) (ps : List QueuedPacket) : Type 0 where
+pub record IsQueuedBetween (p : ℕ) (ps : List QueuedPacket) : Type 0 where
   pub front : List QueuedPacket
   pub packet : QueuedPacket
   pub back : List QueuedPacket
@@ -64,11 +64,11 @@ pub record StandsBetween (p : ℕ) (ps : List QueuedPacket) : Type 0 where
   pub address : packet.address ≡ p
   pub others : departed p ps ≡ front ++ back
 
-pub stands-between : (p : ℕ) (ps : List QueuedPacket) → stands_in p ps ≡ true → StandsBetween p ps
-stands-between p [] e = cc
-stands-between p (q ∷ qs) e = on (eqb p q.address) refl e (stands-between p qs)
+pub between-parts : (p : ℕ) (ps : List QueuedPacket) → is_on_queue p ps ≡ true → IsQueuedBetween p ps
+between-parts p [] e = cc
+between-parts p (q ∷ qs) e = on (eqb p q.address) refl e (between-parts p qs)
   where
-    on : (b : Bool) → eqb p q.address ≡ b → (b || stands_in p qs) ≡ true → (stands_in p qs ≡ true → StandsBetween p qs) → StandsBetween p (q ∷ qs)
+    on : (b : Bool) → eqb p q.address ≡ b → (b || is_on_queue p qs) ≡ true → (is_on_queue p qs ≡ true → IsQueuedBetween p qs) → IsQueuedBetween p (q ∷ qs)
     on true is e more =
         record { front = []; packet = q; back = qs; is = refl; address = sym (eqb-true p q.address is); others = ap (λ b. cond b qs (q ∷ departed p qs)) is }
     on false is e more =

@@ -42,7 +42,7 @@ use Rattle.kernel_calls.specs.PacketCalls.SendOwn.{CanSendKeys, CanSendOwn, CanS
 use Rattle.kernel_calls.specs.declared.packet_calls.queues.Queue.{Queue}
 use Rattle.kernel_calls.specs.declared.packet_calls.queues.Queue.TheVariants as queues
 use Rattle.kernel_calls.proofs.PacketCalls.NamedQueues.{no-device}
-use Rattle.kernel_calls.proofs.PacketCalls.PlacedPackets.{end-changed, end-owners, end-packet, end-queue, fields-stand}
+use Rattle.kernel_calls.proofs.PacketCalls.PlacedPackets.{end-changed, end-owners, end-packet, end-queue, fields-valid}
 use Rattle.kernel_calls.proofs.PacketCalls.PlaceWords.{keys-exchange}
 use Rattle.kernel_model.proofs.KernelRecord.DataInside.{AreData-inside}
 use Rattle.kernel_calls.proofs.PacketCalls.SentPackets.{Sent, sender-set, sent-packet, word-within}
@@ -119,7 +119,7 @@ to-keyboard s l p from to h r =
     let some : AllByRecursion (λ z. 0 < z.address) (ps ++ q ∷ []) =
     all-append (λ z. 0 < z.address) ps (q ∷ []) (packets-some l Keyboard ps h.valid.queues.keyboard) (omega (arith, r.packet), tt)
     in
-    let fields : AllByRecursion (λ t. IsField t.field) l.tasks = fields-stand l h.valid in
+    let fields : AllByRecursion (λ t. IsField t.field) l.tasks = fields-valid l h.valid in
     let same : with_sent s p from to l ≡ with_queue Keyboard (ps ++ q ∷ []) base =
     ap (λ b. cond b (with_key None (with_arrived Keyboard (sent_packet s l Keyboard p from) l)) (with_arrived (Work to) (sent_packet s l (Work to) p from) l)) (eq-eqb to keyboard r.to_keyboard)
     in

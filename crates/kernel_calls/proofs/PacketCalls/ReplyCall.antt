@@ -26,7 +26,7 @@ use Rattle.kernel_calls.specs.PacketCalls.Destinations.{queue_for}
 use Rattle.kernel_calls.specs.PacketCalls.QueueWords.{head_of, enqueued, with_results}
 use Rattle.kernel_calls.specs.PacketCalls.Reply.{CanReply, reply, returned}
 use Rattle.kernel_calls.specs.declared.packet_calls.queues.Queue.TheVariants as queues
-use Rattle.kernel_calls.proofs.PacketCalls.PlacedPackets.{end-changed, end-packet, end-queue, fields-stand, results-own, results-set}
+use Rattle.kernel_calls.proofs.PacketCalls.PlacedPackets.{end-changed, end-packet, end-queue, fields-valid, results-own, results-set}
 use Rattle.kernel_calls.proofs.PacketCalls.SentPackets.{comes-some, comes-valid}
 
 module _ (s : List ℕ) (l : Lists) (p from res1 res2 : ℕ) (h : HoldsLists s l) (r : CanReply s l p from) where
@@ -59,7 +59,7 @@ module _ (s : List ℕ) (l : Lists) (p from res1 res2 : ℕ) (h : HoldsLists s l
   some = comes-some s l at q h r.there r.lodged r.plain r.sender ps [] whole
 
   fields : AllByRecursion (λ t. IsField t.field) l.tasks
-  fields = fields-stand l h.valid
+  fields = fields-valid l h.valid
 
   queue : HasQueue (with_results s p from res1 res2) (head_of (queue_for l at))
   queue = end-queue s l at q ws kept h.holds h.size h.valid.tasks.distinct r.there valid some tt fields (results-own q) (results-set q) (refl, tt)

@@ -10,7 +10,7 @@ use Rattle.kernel_model.specs.KernelRecord.Residents.{key_packet}
 use Rattle.kernel_model.specs.KernelRecord.Task.{is_guest_id}
 use Rattle.kernel_model.specs.KernelRecord.ValidBlocks.{AreData}
 use Rattle.kernel_model.specs.KernelRecord.ValidLists.{AreValid}
-use Rattle.kernel_model.specs.KernelRecord.ValidQueues.{IsFaultPacket, IsKeyPacket, MayStand, Place, is_fault_packet, is_key_packet}
+use Rattle.kernel_model.specs.KernelRecord.ValidQueues.{IsFaultPacket, IsKeyPacket, IsValidPacket, Place, is_fault_packet, is_key_packet}
 use Rattle.kernel_model.specs.KernelRecord.ValidQueues.Place.{Clock, Keyboard, Output, Work}
 use Rattle.kernel_model.proofs.KernelRecord.PacketMoves.{queued-valid, unqueued-unowned, unqueued-valid}
 use Rattle.kernel_model.proofs.KernelRecord.QueuePlaces.{is_queued-here}
@@ -34,19 +34,19 @@ to_guest m d res1 p v unowned there guest lodged no_key no_fault =
 
 module _ (l : Lists) (p : QueuedPacket) (ps : List QueuedPacket) (v : AreValid l) where
   -- the fault packet waits for no device
-  no-fault : (at : Place) → (IsFaultPacket at p → ⊥) → MayStand l at p → is_fault_packet l p ≡ false
-  no-fault at never stands = on (is_fault_packet l p) refl
+  no-fault : (at : Place) → (IsFaultPacket at p → ⊥) → IsValidPacket l at p → is_fault_packet l p ≡ false
+  no-fault at never valid-packet = on (is_fault_packet l p) refl
     where
       on : (b : Bool) → is_fault_packet l p ≡ b → b ≡ false
       on false e = refl
-      on true e = absurd (never (stands.fault e))
+      on true e = absurd (never (valid-packet.fault e))
 
-  no-key : (at : Place) → (IsKeyPacket at p → ⊥) → MayStand l at p → is_key_packet l p ≡ false
-  no-key at never stands = on (is_key_packet l p) refl
+  no-key : (at : Place) → (IsKeyPacket at p → ⊥) → IsValidPacket l at p → is_key_packet l p ≡ false
+  no-key at never valid-packet = on (is_key_packet l p) refl
     where
       on : (b : Bool) → is_key_packet l p ≡ b → b ≡ false
       on false e = refl
-      on true e = absurd (never (stands.key e))
+      on true e = absurd (never (valid-packet.key e))
 
   not-clock : IsFaultPacket Clock p → ⊥
   not-clock f = (let e = f.place in cc)
@@ -57,12 +57,12 @@ module _ (l : Lists) (p : QueuedPacket) (ps : List QueuedPacket) (v : AreValid l
   not-output : IsFaultPacket Output p → ⊥
   not-output f = (let e = f.place in cc)
 
-  first : (at : Place) (qs : List QueuedPacket) → qs ≡ p ∷ ps → AllByRecursion (MayStand l at) qs → MayStand l at p
-  first at qs is all = (subst (AllByRecursion (MayStand l at)) is all).0
+  first : (at : Place) (qs : List QueuedPacket) → qs ≡ p ∷ ps → AllByRecursion (IsValidPacket l at) qs → IsValidPacket l at p
+  first at qs is all = (subst (AllByRecursion (IsValidPacket l at)) is all).0
 
   from-clock : (res1 : ℕ) → l.clock ≡ p ∷ ps → AreValid (with_work_for p.sender (returned_by devices.Clock res1 p) (with_queue Clock ps l))
   from-clock res1 is =
-      let may : MayStand l Clock p = first Clock l.clock is v.queues.clock in
+      let may : IsValidPacket l Clock p = first Clock l.clock is v.queues.clock in
       let no_key = no-key Clock (λ k. k.place) may in
       let no_fault = no-fault Clock not-clock may in
       to_guest (with_queue Clock ps l) devices.Clock res1 p (unqueued-valid l Clock p [] ps v is no_key no_fault) (unqueued-unowned l Clock p [] ps v is) (may.sender no_key).1 (may.sender no_key).0
@@ -70,7 +70,7 @@ module _ (l : Lists) (p : QueuedPacket) (ps : List QueuedPacket) (v : AreValid l
 
   from-output : (res1 : ℕ) → l.output ≡ p ∷ ps → AreValid (with_work_for p.sender (returned_by devices.Output res1 p) (with_queue Output ps l))
   from-output res1 is =
-      let may : MayStand l Output p = first Output l.output is v.queues.output in
+      let may : IsValidPacket l Output p = first Output l.output is v.queues.output in
       let no_key = no-key Output (λ k. k.place) may in
       let no_fault = no-fault Output not-output may in
       to_guest (with_queue Output ps l) devices.Output res1 p (unqueued-valid l Output p [] ps v is no_key no_fault) (unqueued-unowned l Output p [] ps v is) (may.sender no_key).1 (may.sender no_key).0
@@ -100,7 +100,7 @@ module _ (l : Lists) (p : QueuedPacket) (ps : List QueuedPacket) (v : AreValid l
   from-keys : (res1 : ℕ) → l.keyboard ≡ p ∷ ps → AreValid (with_work_for p.sender (returned_by devices.Keyboard res1 p) (with_queue Keyboard ps l))
   from-keys res1 is = on (is_key_packet l p) refl
     where
-      may : MayStand l Keyboard p
+      may : IsValidPacket l Keyboard p
       may = first Keyboard l.keyboard is v.queues.keyboard
 
       on : (b : Bool) → is_key_packet l p ≡ b → AreValid (with_work_for p.sender (returned_by devices.Keyboard res1 p) (with_queue Keyboard ps l))
@@ -117,11 +117,11 @@ module _ (l : Lists) (p : QueuedPacket) (ps : List QueuedPacket) (v : AreValid l
 
   -- its sender is a task that is there
   pub sender-there : (d : Device) → queue_of (place_of d) l ≡ p ∷ ps → has_task p.sender l.tasks ≡ true
-  sender-there devices.Clock is = (let may : MayStand l Clock p = first Clock l.clock is v.queues.clock in (may.sender (no-key Clock (λ k. k.place) may)).1)
-  sender-there devices.Output is = (let may : MayStand l Output p = first Output l.output is v.queues.output in (may.sender (no-key Output (λ k. k.place) may)).1)
+  sender-there devices.Clock is = (let may : IsValidPacket l Clock p = first Clock l.clock is v.queues.clock in (may.sender (no-key Clock (λ k. k.place) may)).1)
+  sender-there devices.Output is = (let may : IsValidPacket l Output p = first Output l.output is v.queues.output in (may.sender (no-key Output (λ k. k.place) may)).1)
   sender-there devices.Keyboard is = on (is_key_packet l p) refl
     where
-      may : MayStand l Keyboard p
+      may : IsValidPacket l Keyboard p
       may = first Keyboard l.keyboard is v.queues.keyboard
 
       on : (b : Bool) → is_key_packet l p ≡ b → has_task p.sender l.tasks ≡ true

@@ -19,14 +19,14 @@ use Rattle.kernel_model.specs.KernelRecord.ValidLists.{AreValid}
 use Rattle.kernel_model.specs.KernelRecord.ValidQueues.{Place}
 use Rattle.kernel_model.specs.KernelRecord.ValidQueues.Place.{Work}
 use Rattle.kernel_model.specs.KernelRecord.ValidTasks.{IsField}
-use Rattle.kernel_model.proofs.KernelRecord.QueuePlaces.{place-stands, with_queue-size}
+use Rattle.kernel_model.proofs.KernelRecord.QueuePlaces.{valid-at-place, with_queue-size}
 use Rattle.kernel_model.proofs.KernelRecord.ReadQueues.{packets-some}
 use Rattle.kernel_calls.proofs.CallAnswers.FoundTask.{TaskAt, found-address}
 use Rattle.kernel_calls.specs.PacketCalls.Destinations.{queue_for}
 use Rattle.kernel_calls.specs.PacketCalls.QueueWords as moves
 use Rattle.kernel_calls.specs.declared.packet_calls.queues.Queue.TheVariants as queues
 use Rattle.kernel_calls.proofs.PacketCalls.Departure.{departed-size, departed-written, held-before, others-kept, owners-departed}
-use Rattle.kernel_calls.proofs.PacketCalls.PlacedPackets.{end-changed, end-owners, end-packet, end-queue, fields-stand, results-own, results-set}
+use Rattle.kernel_calls.proofs.PacketCalls.PlacedPackets.{end-changed, end-owners, end-packet, end-queue, fields-valid, results-own, results-set}
 use Rattle.kernel_calls.specs.PacketCalls.Returned.{IsServed, number_of, place_of, returned_by, with_work_for}
 use Rattle.kernel_calls.specs.declared.packet_calls.returns.Device.{Device}
 use Rattle.kernel_calls.specs.declared.packet_calls.returns.Device.TheVariants.{Clock, Keyboard, Output}
@@ -82,13 +82,13 @@ module _ (s : List ℕ) (l : Lists) (d : Device) (p : QueuedPacket) (ps : List Q
   distinct = subst (λ ts. IsApart (map task_id ts)) (tasks-same l d ps) h.valid.tasks.distinct
 
   fields : AllByRecursion (λ t. IsField t.field) m.tasks
-  fields = subst (AllByRecursion (λ t. IsField t.field)) (tasks-same l d ps) (fields-stand l h.valid)
+  fields = subst (AllByRecursion (λ t. IsField t.field)) (tasks-same l d ps) (fields-valid l h.valid)
 
   some : AllByRecursion (λ z. 0 < z.address) (queue_of at m ++ r ∷ [])
   some =
       all-append (λ z. 0 < z.address) (queue_of at m) (r ∷ [])
       (subst (λ ts. AllByRecursion (λ z. 0 < z.address) (work_of p.sender ts)) (tasks-same l d ps)
-      (packets-some l at (queue_of at l) (place-stands l at h.valid (sender-there l p ps h.valid d is))))
+      (packets-some l at (queue_of at l) (valid-at-place l at h.valid (sender-there l p ps h.valid d is))))
       ((held-before s l (place_of d) p [] ps h is).some.0, tt)
 
   valid : AreValid (with_work_for p.sender r m)

@@ -12,14 +12,14 @@ use Rattle.kernel_calls.proofs.CallAnswers.FoundTask.{Finds, find-task, found-th
 use Rattle.kernel_model.specs.KernelRecord.ValidLists.{AreValid}
 use Rattle.kernel_calls.specs.PacketCalls.Destinations.{is_destination, place_of}
 use Rattle.kernel_calls.specs.PacketCalls.Dqpkt.{Search, found_in, found_in_own, further_searches, is_residents_packet, located, pending_number}
-use Rattle.kernel_calls.specs.PacketCalls.PacketMoves.{stands_in}
+use Rattle.kernel_calls.specs.PacketCalls.PacketMoves.{is_on_queue}
 use Rattle.kernel_calls.specs.declared.packet_calls.dequeue.Found.{Found}
 
 -- ---- the searches in their order
 
 module _ (l : Lists) (id p : ℕ) where
   abbrev test : Search → Bool
-  test w = stands_in p (queue_of w.place l)
+  test w = is_on_queue p (queue_of w.place l)
 
   abbrev named : Search
   named = record { place = place_of id; number = id; answer = id }
@@ -30,20 +30,20 @@ module _ (l : Lists) (id p : ℕ) where
   abbrev own : Search
   own = record { place = Work l.running; number = l.running; answer = l.running }
 
-  pub found-named : stands_in p (queue_of (place_of id) l) ≡ true → found_in l id p ≡ Some named
+  pub found-named : is_on_queue p (queue_of (place_of id) l) ≡ true → found_in l id p ≡ Some named
   found-named e = ap (λ b. cond b (Some named) (find test (further_searches id ++ own ∷ []))) e
 
-  pub found-reads : stands_in p (queue_of (place_of id) l) ≡ false → id ≡ 3 → stands_in p l.pending ≡ true → found_in l id p ≡ Some reads
+  pub found-reads : is_on_queue p (queue_of (place_of id) l) ≡ false → id ≡ 3 → is_on_queue p l.pending ≡ true → found_in l id p ≡ Some reads
   found-reads e console f =
       let three : eqb id 3 ≡ true = eq-eqb id 3 console in
       (λ i. cond (e i) (Some named) (find test (cond (three i) (reads ∷ []) [] ++ own ∷ []))) ∙ ap (λ b. cond b (Some reads) (find test (own ∷ []))) f
 
-  pub found-own : stands_in p (queue_of (place_of id) l) ≡ false → id ≢ 3 → found_in l id p ≡ found_in_own l p
+  pub found-own : is_on_queue p (queue_of (place_of id) l) ≡ false → id ≢ 3 → found_in l id p ≡ found_in_own l p
   found-own e other =
       let three : eqb id 3 ≡ false = ne_eqb id 3 other in
       λ i. cond (e i) (Some named) (find test (cond (three i) (reads ∷ []) [] ++ own ∷ []))
 
-  pub found-behind : stands_in p (queue_of (place_of id) l) ≡ false → id ≡ 3 → stands_in p l.pending ≡ false → found_in l id p ≡ found_in_own l p
+  pub found-behind : is_on_queue p (queue_of (place_of id) l) ≡ false → id ≡ 3 → is_on_queue p l.pending ≡ false → found_in l id p ≡ found_in_own l p
   found-behind e console f =
       let three : eqb id 3 ≡ true = eq-eqb id 3 console in
       (λ i. cond (e i) (Some named) (find test (cond (three i) (reads ∷ []) [] ++ own ∷ []))) ∙ ap (λ b. cond b (Some reads) (find test (own ∷ []))) f

@@ -15,13 +15,13 @@ use Rattle.kernel_model.specs.KernelRecord.Lists.{Lists}
 use Rattle.kernel_model.specs.KernelRecord.Owned.{clock_head, owned}
 use Rattle.kernel_model.specs.KernelRecord.ValidBlocks.{AreData}
 use Rattle.kernel_model.specs.KernelRecord.ValidLists.{AreValid}
-use Rattle.kernel_model.specs.KernelRecord.ValidQueues.{HasSender, MayStand, NeverFall, Place}
+use Rattle.kernel_model.specs.KernelRecord.ValidQueues.{HasSender, IsValidPacket, NeverFall, Place}
 use Rattle.kernel_model.specs.KernelRecord.ValidQueues.Place.{Clock, Keyboard, Output, Pending, Work}
 use Rattle.kernel_model.specs.KernelRecord.ValidTasks.{IsField}
 use Rattle.kernel_model.proofs.KernelRecord.AllThings.{all-between}
 use Rattle.kernel_model.proofs.KernelRecord.OwnedPackets.{unowned-no_fault, unowned-no_key}
 use Rattle.kernel_model.proofs.KernelRecord.PacketMoves.{queued-valid}
-use Rattle.kernel_model.proofs.KernelRecord.QueuePlaces.{place-stands}
+use Rattle.kernel_model.proofs.KernelRecord.QueuePlaces.{valid-at-place}
 use Rattle.kernel_model.proofs.KernelRecord.ReadQueues.{packets-some}
 use Rattle.kernel_calls.specs.PacketCalls.Destinations.{queue_for}
 use Rattle.kernel_calls.specs.PacketCalls.PacketMoves.{arrived, packet_at, sent_packet, with_arrived}
@@ -30,7 +30,7 @@ use Rattle.kernel_calls.proofs.PacketCalls.Arrival.{AreOfPacket}
 use Rattle.kernel_calls.proofs.PacketCalls.ArrivalWords.{TakesAtEnd}
 use Rattle.kernel_calls.proofs.PacketCalls.DueOrder.{falls-inserted}
 use Rattle.kernel_calls.proofs.PacketCalls.HeldPlaces.{held-at}
-use Rattle.kernel_calls.proofs.PacketCalls.PlacedPackets.{AreSet, clock-changed, clock-owners, clock-packet, clock-queue, end-changed, end-owners, end-packet, end-queue, fields-stand}
+use Rattle.kernel_calls.proofs.PacketCalls.PlacedPackets.{AreSet, clock-changed, clock-owners, clock-packet, clock-queue, end-changed, end-owners, end-packet, end-queue, fields-valid}
 
 -- one of the five words
 pub word-within : (p i w : ℕ) → i < 5 → (a : ℕ) → 0 < owners a ((p + i, w) ∷ []) → 0 < times a (range_with_len p 5)
@@ -76,8 +76,8 @@ module _ (s : List ℕ) (l : Lists) (at : Place) (q : QueuedPacket) (h : HoldsLi
   unowned : owners q.address (owned l) ≡ 0
   unowned = plain q.address (omega arith) (omega arith)
 
-  stands : MayStand l at q
-  stands =
+  valid-packet : IsValidPacket l at q
+  valid-packet =
       record {
         lodged = lodged;
         key = λ e. absurd (false≢true (sym (unowned-no_key l q h.valid unowned) ∙ e));
@@ -86,11 +86,11 @@ module _ (s : List ℕ) (l : Lists) (at : Place) (q : QueuedPacket) (h : HoldsLi
       }
 
   pub comes-valid : (front back : List QueuedPacket) → queue_of at l ≡ front ++ back → KeepsOrder at (front ++ q ∷ back) → AreValid (with_queue at (front ++ q ∷ back) l)
-  comes-valid front back is order = queued-valid l at q front back h.valid has is stands plain order
+  comes-valid front back is order = queued-valid l at q front back h.valid has is valid-packet plain order
 
   pub comes-some : (front back : List QueuedPacket) → queue_of at l ≡ front ++ back → AllByRecursion (λ z. 0 < z.address) (front ++ q ∷ back)
   comes-some front back is =
-      packets-some l at (front ++ q ∷ back) (all-between (MayStand l at) front q back stands (subst (AllByRecursion (MayStand l at)) is (place-stands l at h.valid has)))
+      packets-some l at (front ++ q ∷ back) (all-between (IsValidPacket l at) front q back valid-packet (subst (AllByRecursion (IsValidPacket l at)) is (valid-at-place l at h.valid has)))
 
 -- ---- what such a packet needs, and what it leaves
 
@@ -110,7 +110,7 @@ module _ (s : List ℕ) (l : Lists) (p sender : ℕ) (h : HoldsLists s l) (lodge
       let kept : Pairs = (p + 2, get_or s (p + 2) 0) ∷ (p + 3, get_or s (p + 3) 0) ∷ (p + 4, get_or s (p + 4) 0) ∷ [] in
       let v : AreValid (with_queue at (ps ++ q ∷ []) l) = comes-valid s l at q h has lodged plain from ps [] is (end-keeps at (ps ++ q ∷ []) end) in
       let some : AllByRecursion (λ z. 0 < z.address) (ps ++ q ∷ []) = comes-some s l at q h has lodged plain from ps [] is in
-      let fields : AllByRecursion (λ t. IsField t.field) l.tasks = fields-stand l h.valid in
+      let fields : AllByRecursion (λ t. IsField t.field) l.tasks = fields-valid l h.valid in
       let own : AreOfPacket p ws = word-within p 1 sender (omega arith) in
       let becomes : with_arrived at (sent_packet s l at p sender) l ≡ with_queue at (ps ++ q ∷ []) l =
       ap (λ z. with_arrived at z l) (sent-end s l at p sender end) ∙ ap (λ z. with_queue at z l) (arrived-end at q ps end)

@@ -21,14 +21,14 @@ use Rattle.kernel_model.specs.KernelRecord.NotedEvents.{NotesAll}
 use Rattle.kernel_model.specs.KernelRecord.Owned.{owned}
 use Rattle.kernel_model.specs.KernelRecord.Task.{Task, fault_words, globals_of, is_guest_id, name_words, queue_bit, queue_head, stack_of, state_word, state_words, task_address, task_words}
 use Rattle.kernel_model.specs.KernelRecord.ValidLists.{AreValid}
-use Rattle.kernel_model.specs.KernelRecord.ValidQueues.{IsFaultPacket, IsKeyPacket, MayStand, Place, is_fault_packet, is_key_packet}
+use Rattle.kernel_model.specs.KernelRecord.ValidQueues.{IsFaultPacket, IsKeyPacket, IsValidPacket, Place, is_fault_packet, is_key_packet}
 use Rattle.kernel_model.specs.KernelRecord.ValidQueues.Place.{Clock, Keyboard, Output, Pending, Work}
 use Rattle.kernel_model.specs.KernelRecord.ValidTasks.{IsTask}
 use Rattle.kernel_model.proofs.KernelRecord.ChangedLists.{exchange-owned, knows-same, one_task-owned, owners-exchanged}
 use Rattle.kernel_model.proofs.KernelRecord.NotedInTurn.{notes-none, notes-one}
 use Rattle.kernel_model.proofs.KernelRecord.OneTask.{same_task-valid}
 use Rattle.kernel_model.proofs.KernelRecord.PacketMoves.{unqueued-valid}
-use Rattle.kernel_model.proofs.KernelRecord.QueuePlaces.{place-stands}
+use Rattle.kernel_model.proofs.KernelRecord.QueuePlaces.{valid-at-place}
 use Rattle.kernel_model.specs.WordKinds.Keeper.{AreTogether}
 use Rattle.kernel_model.proofs.WordKinds.KnownWords.{knows-released}
 use Rattle.kernel_calls.specs.CallAnswers.Callers.{HasCaller}
@@ -36,12 +36,12 @@ use Rattle.kernel_calls.specs.CallAnswers.Guests.{GuestAt}
 use Rattle.kernel_calls.specs.CallAnswers.Made.{IsMade}
 use Rattle.kernel_calls.proofs.CallAnswers.GuestTask.{GuestFacts, guest-changed, guest-facts}
 use Rattle.kernel_calls.specs.PacketCalls.Destinations.{queue_for}
-use Rattle.kernel_calls.specs.PacketCalls.PacketMoves.{stands_in}
+use Rattle.kernel_calls.specs.PacketCalls.PacketMoves.{is_on_queue}
 use Rattle.kernel_calls.specs.PacketCalls.QueueWords.{head_of, unqueued}
 use Rattle.kernel_calls.specs.PacketCalls.TaskWait.{first_of_queue, taskwait, waited, waiting}
 use Rattle.kernel_calls.specs.declared.packet_calls.queues.Queue.TheVariants as queues
 use Rattle.kernel_calls.proofs.PacketCalls.CallerTask.{caller-first, caller-number, caller-queue, caller-runs, caller-state, caller-there}
-use Rattle.kernel_calls.proofs.PacketCalls.HeldPlaces.{HasFirst, first-there, has-at, held-at, no-packets, stands-at}
+use Rattle.kernel_calls.proofs.PacketCalls.HeldPlaces.{HasFirst, first-there, has-at, held-at, no-packets, valid-at}
 use Rattle.kernel_calls.proofs.PacketCalls.Departure.{departed-changed, held-before, others-kept, owners-departed}
 
 -- a place by the number of its task
@@ -136,27 +136,27 @@ module _ (s : List ℕ) (tells : List ℕ → Type 0) (room : ℕ) (l : Lists) (
     guest : is_guest_id l.running ≡ true
     guest = c.guest
 
-    stands : MayStand l (Work l.running) q
-    stands = (subst (AllByRecursion (MayStand l (Work l.running))) first.is (place-stands l (Work l.running) k.lists.valid there)).0
+    valid-packet : IsValidPacket l (Work l.running) q
+    valid-packet = (subst (AllByRecursion (IsValidPacket l (Work l.running))) first.is (valid-at-place l (Work l.running) k.lists.valid there)).0
 
     no_key : is_key_packet l q ≡ false
-    no_key = false_from_ne_true (is_key_packet l q) (λ one. (let i : IsKeyPacket (Work l.running) q = stands.key one in absurd (omega (arith, leb-true 5 l.running guest, i.place.0))))
+    no_key = false_from_ne_true (is_key_packet l q) (λ one. (let i : IsKeyPacket (Work l.running) q = valid-packet.key one in absurd (omega (arith, leb-true 5 l.running guest, i.place.0))))
 
     no_fault : is_fault_packet l q ≡ false
     no_fault =
         false_from_ne_true (is_fault_packet l q)
-        (λ one. (let i : IsFaultPacket (Work l.running) q = stands.fault one in absurd (omega (arith, leb-true 5 l.running guest, ap number_in i.place))))
+        (λ one. (let i : IsFaultPacket (Work l.running) q = valid-packet.fault one in absurd (omega (arith, leb-true 5 l.running guest, ap number_in i.place))))
 
     valid : AreValid (with_queue (Work l.running) first.back l)
     valid = unqueued-valid l (Work l.running) q [] first.back k.lists.valid first.is no_key no_fault
 
     pub wait-queue : HasQueue s (queue_head t)
-    wait-queue = subst (λ z. HasQueue s (head_of z)) (caller-queue s l l.running t k.lists g) (stands-at s l (Work l.running) k.lists there)
+    wait-queue = subst (λ z. HasQueue s (head_of z)) (caller-queue s l l.running t k.lists g) (valid-at s l (Work l.running) k.lists there)
 
     pub wait-packet : has p (queue_at s (queue_head t)) ≡ true
     wait-packet =
         subst (λ z. has p (queue_at s (head_of z)) ≡ true) (caller-queue s l l.running t k.lists g)
-        (has-at s l (Work l.running) k.lists there p ∙ ap (stands_in p) first.is ∙ or_left (eqb p q.address) (stands_in p first.back) (eq-eqb p q.address (sym first.address)))
+        (has-at s l (Work l.running) k.lists there p ∙ ap (is_on_queue p) first.is ∙ or_left (eqb p q.address) (is_on_queue p first.back) (eq-eqb p q.address (sym first.address)))
 
     left-is : (v : List ℕ) → v ≡ unqueued s (queues.Work t) p → v ≡ unqueued s (queue_for l (Work l.running)) q.address
     left-is v is = is ∙ (λ i. unqueued s (sym (caller-queue s l l.running t k.lists g) i) (sym first.address i))

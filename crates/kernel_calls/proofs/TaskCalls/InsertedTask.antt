@@ -176,7 +176,7 @@ module _ (s : List ℕ) (l : Lists) (x : Task) (c : ComesNew s l x) where
       (record {
         holds = subst (Holds s) (owned-around l) c.lists.holds;
         exchange = around-exchange l (listed l l.tasks) (listed l chain) gone (there ++ words x n) exchange;
-        stands = c.own;
+        there = c.own;
         apart = λ a. omega (arith, c.valid.owns.apart a, ap (owners a) owned-after);
         inside = λ a some. omega (arith, c.lists.size, c.valid.owns.inside a (omega (arith, some, ap (owners a) owned-after)));
         unowned = λ a some. absurd (omega (arith, some));

@@ -118,7 +118,7 @@ module _ (s : List ℕ) (l : Lists) (front : List Task) (x : Task) (back : List 
             record {
               holds = holds-before;
               exchange = around-exchange l (listed l whole) (listed l rest) (there ++ words x n) gone first-exchange;
-              stands = tt;
+              there = tt;
               apart = λ a. omega (arith, apart a);
               inside = λ a some. inside a (omega (arith, some));
               unowned = λ a some. elim (cases_eq a (x.address + 2)) [ inl e ↦ omega (arith, apart a, mine a e) | inr ne ↦ absurd (omega (arith, some, hit-other a (x.address + 2) ne)) ];
@@ -145,7 +145,7 @@ module _ (s : List ℕ) (l : Lists) (front : List Task) (x : Task) (back : List 
       (record {
         holds = before;
         exchange = own-exchange;
-        stands = tt;
+        there = tt;
         apart = λ a. omega (arith, apart a);
         inside = λ a some. inside a (omega (arith, some));
         unowned = λ a some. absurd (omega (arith, some));
@@ -265,7 +265,7 @@ module _ (s : List ℕ) (l : Lists) (front : List Task) (x : Task) (back : List 
       (record {
         holds = out-written.holds;
         exchange = around-exchange l (listed l rest) (listed l chain) (absent_words task_address task_id inserted.front y inserted.back) (there-now ++ words y m) second-exchange;
-        stands = own-held.1;
+        there = own-held.1;
         apart = λ a. omega (arith, second-count a, apart a);
         inside = λ a some. (let more : a < length s = inside a (omega (arith, some, second-count a)) in omega (arith, more, out-size));
         unowned = λ a some. absurd (omega (arith, some));

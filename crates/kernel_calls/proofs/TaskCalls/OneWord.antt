@@ -12,14 +12,14 @@ use Rattle.kernel_model.specs.KernelRecord.Lists.{Lists}
 use Rattle.kernel_model.specs.KernelRecord.Owned.{owned}
 use Rattle.kernel_model.specs.KernelRecord.Task.{Task, task_address, task_words}
 use Rattle.kernel_model.specs.KernelRecord.ValidLists.{AreValid}
-use Rattle.kernel_model.specs.KernelRecord.ValidTasks.{CoroutinesStand, IsTask}
+use Rattle.kernel_model.specs.KernelRecord.ValidTasks.{AreValidCoroutines, IsTask}
 use Rattle.kernel_model.proofs.KernelRecord.OneTask.{same_task-valid}
 use Rattle.kernel_model.proofs.KernelRecord.OneTaskExchange.{one_task-exchange}
 use Rattle.kernel_calls.specs.CallAnswers.Guests.{GuestAt}
 use Rattle.kernel_calls.proofs.CallAnswers.GuestTask.{guest-changed}
 
 pub one-word : (s : List ℕ) (l : Lists) (front : List Task) (t u : Task) (back : List Task) (a w x : ℕ) → HoldsLists s l → l.tasks ≡ front ++ t ∷ back
-    → SameTask t u → IsTask l u → CoroutinesStand l u
+    → SameTask t u → IsTask l u → AreValidCoroutines l u
     → ((n : ℕ) → Exchange (task_words l.version t n) (task_words l.version u n) ((a, w) ∷ []) ((a, x) ∷ []))
     → IsChanged s (set s a x) (with_tasks (front ++ u ∷ back) l) []
 one-word s l front t u back a w x h is same task coroutines inner =
@@ -35,7 +35,7 @@ one-word s l front t u back a w x h is same task coroutines inner =
     (record {
       holds = h.holds;
       exchange = exchange;
-      stands = tt;
+      there = tt;
       apart = v.owns.apart;
       inside = λ b some. omega (arith, h.size, v.owns.inside b some);
       unowned = λ b some. absurd (omega (arith, some));
@@ -45,7 +45,7 @@ one-word s l front t u back a w x h is same task coroutines inner =
 
 -- the same of the task with a number
 pub word-changed : (s : List ℕ) (l : Lists) (id address : ℕ) (change : Task → Task) (a w x : ℕ) → HoldsLists s l → (g : GuestAt l id address)
-    → SameTask g.task (change g.task) → IsTask l (change g.task) → CoroutinesStand l (change g.task)
+    → SameTask g.task (change g.task) → IsTask l (change g.task) → AreValidCoroutines l (change g.task)
     → ((n : ℕ) → Exchange (task_words l.version g.task n) (task_words l.version (change g.task) n) ((a, w) ∷ []) ((a, x) ∷ []))
     → IsChanged s (set s a x) (with_task id change l) []
 word-changed s l id address change a w x h g same task coroutines inner =

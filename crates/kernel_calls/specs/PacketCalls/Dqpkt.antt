@@ -9,7 +9,7 @@ use Rattle.kernel_model.specs.KernelRecord.ValidQueues.{Place, is_fault_at, is_k
 use Rattle.kernel_model.specs.KernelRecord.ValidQueues.Place.{Pending, Work}
 use Rattle.kernel_calls.specs.CallAnswers.Made.{Made, done, unless_refused}
 use Rattle.kernel_calls.specs.PacketCalls.Destinations.{is_destination, place_of, queue_for}
-use Rattle.kernel_calls.specs.PacketCalls.PacketMoves.{stands_in, with_departed}
+use Rattle.kernel_calls.specs.PacketCalls.PacketMoves.{is_on_queue, with_departed}
 use Rattle.kernel_calls.specs.declared.packet_calls.dequeue.Found.{Found}
 
 -- A queue that is searched: where it is, its number as events name it, and the answer where the packet is found in it.
@@ -37,12 +37,12 @@ searches l id =
 
 -- the first of these queues that has the packet
 abbrev pub found_in : Lists → ℕ → ℕ → Option Search
-found_in l id p = find (λ w. stands_in p (queue_of w.place l)) (searches l id)
+found_in l id p = find (λ w. is_on_queue p (queue_of w.place l)) (searches l id)
 
 -- the last search alone
 abbrev pub found_in_own : Lists → ℕ → Option Search
 found_in_own l p =
-    if stands_in p (queue_of (Work l.running) l) then Some (record { place = Work l.running; number = l.running; answer = l.running }) else None
+    if is_on_queue p (queue_of (Work l.running) l) then Some (record { place = Work l.running; number = l.running; answer = l.running }) else None
 
 -- a search, as the code has it
 abbrev pub located : Lists → Search → Found

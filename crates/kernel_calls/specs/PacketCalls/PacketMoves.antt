@@ -38,8 +38,8 @@ sent_packet s l at p sender = record (packet_at s p) { sender = sender; last = s
 -- ---- a packet goes
 
 -- whether the packet at p is on the queue
-abbrev pub stands_in : ℕ → List QueuedPacket → Bool
-stands_in p ps = list_any (λ q. p == q.address) ps
+abbrev pub is_on_queue : ℕ → List QueuedPacket → Bool
+is_on_queue p ps = list_any (λ q. p == q.address) ps
 
 -- the queue without the packet at p
 abbrev pub departed : ℕ → List QueuedPacket → List QueuedPacket

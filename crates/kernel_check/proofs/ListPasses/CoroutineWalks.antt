@@ -15,7 +15,7 @@ use Rattle.kernel_lists.specs.Coroutines.HeldCoroutines.{address_of}
 use Rattle.kernel_model.specs.KernelRecord.BlockUse.{coroutine_addresses}
 use Rattle.kernel_model.specs.KernelRecord.Recovered.{coroutine_in, lists_in, task_in}
 use Rattle.kernel_model.specs.KernelRecord.ValidBlocks.{HasBlock}
-use Rattle.kernel_model.specs.KernelRecord.ValidTasks.{CoroutinesStand, IsCoroutine}
+use Rattle.kernel_model.specs.KernelRecord.ValidTasks.{AreValidCoroutines, IsCoroutine}
 use Rattle.store_claims.specs.WordClaims.Marks.{AreClaimed, AreOpen, IsSet, is_open}
 use Rattle.store_claims.proofs.WordClaims.ClaimedWords.{open-low}
 use Rattle.store_claims.specs.ListClaims.ListWords.{Claimable}
@@ -29,7 +29,7 @@ abbrev pub Body : List ℕ → ℕ → Type 0
 Body s c = IsCoroutine (lists_in s) (coroutine_in s c)
 
 abbrev pub Own : List ℕ → ℕ → Type 0
-Own s t = CoroutinesStand (lists_in s) (task_in s t)
+Own s t = AreValidCoroutines (lists_in s) (task_in s t)
 
 -- ---- one coroutine
 
@@ -52,8 +52,8 @@ module _ (s : List ℕ) (t : ℕ) (marks : List Bool) (can : CanPass s t) (o : O
   members-are : coroutine_addresses (task_in s t) ≡ coroutines_in s t
   members-are = map-coroutines s (coroutines_in s t)
 
-  pub own-stand : AllByRecursion (Body s) (coroutines_in s t) → Claimable marks (active_in s t) → Own s t
-  own-stand bodies c = record {
+  pub own-coroutines : AllByRecursion (Body s) (coroutines_in s t) → Claimable marks (active_in s t) → Own s t
+  own-coroutines bodies c = record {
     each = (of-map (IsCoroutine (lists_in s)) (coroutine_in s) (coroutines_in s t)).0 bodies;
     members = all-members (λ a. has a (coroutine_addresses (task_in s t)) ≡ true) (active_in s t)
         (λ a there. (let shown : is_open marks a ≡ true = c.are_open a (has-times a (active_in s t) there) in
@@ -61,8 +61,8 @@ module _ (s : List ℕ) (t : ℕ) (marks : List Bool) (can : CanPass s t) (o : O
     distinct = c.apart;
   }
 
-  pub stand-own : Own s t → Claimable marks (active_in s t)
-  stand-own k = record {
+  pub own-claimable : Own s t → Claimable marks (active_in s t)
+  own-claimable k = record {
     are_open = λ a some.
         let there : has a (coroutines_in s t) ≡ true = sym (ap (has a) members-are) ∙ all-has (λ a. has a (coroutine_addresses (task_in s t)) ≡ true) a (active_in s t) k.members (times-has a (active_in s t) some) in
         let low : a + 10 ≤ length s = all-has (λ a. a + 10 ≤ length s) a (coroutines_in s t) can.bodies there in
@@ -94,8 +94,8 @@ module _ (s : List ℕ) (t : ℕ) (marks : List Bool) (can : CanPass s t) (o : O
       let before : is_open marks a ≡ true = ((c.marks a).0 shown).0 in
       sym (o.are_open a (omega (arith, o.size, open-low marks a before))) ∙ before
 
-pub stand-bodies : (s : List ℕ) (t : ℕ) → Own s t → AllByRecursion (Body s) (coroutines_in s t)
-stand-bodies s t k = (of-map (IsCoroutine (lists_in s)) (coroutine_in s) (coroutines_in s t)).1 k.each
+pub own-bodies : (s : List ℕ) (t : ℕ) → Own s t → AllByRecursion (Body s) (coroutines_in s t)
+own-bodies s t k = (of-map (IsCoroutine (lists_in s)) (coroutine_in s) (coroutines_in s t)).1 k.each
 
 -- ---- they are shut
 

@@ -122,8 +122,8 @@ module _ (s : List ℕ) (t : ℕ) (can : CanPass s t) where
   few-active own =
       let all : suc (length (active_in s t)) ≤ length s =
       length-apart (length s) (0 ∷ active_in s t)
-      (IsApart-cons 0 (active_in s t) (none-zero (active_in s t) (out-some (length s) s t (current_cell t))) own.stand.distinct)
-      (omega (arith, can.block), all-each (λ c. has c (coroutine_addresses (task_in s t)) ≡ true) (λ c. c < length s) below (active_in s t) own.stand.members)
+      (IsApart-cons 0 (active_in s t) (none-zero (active_in s t) (out-some (length s) s t (current_cell t))) own.valid.distinct)
+      (omega (arith, can.block), all-each (λ c. has c (coroutine_addresses (task_in s t)) ≡ true) (λ c. c < length s) below (active_in s t) own.valid.members)
       in
       omega (arith, all)
     where

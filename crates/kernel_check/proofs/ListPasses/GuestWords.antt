@@ -138,8 +138,8 @@ module _ (s : List ℕ) (marks : List Bool) (t first a n : ℕ) (ws : List ℕ) 
   all-named named here zero low some = open-has first (here some)
   all-named named here (suc k) low some = open-has (get_or ws k 0) (named k (omega (arith, low)) some)
 
-  pub modules-stand : AreNamed marks ws → (first ≢ 0 → is_open marks first ≡ true) → HasWord (first ∷ ws) → HasModules (lists_in s) (task_in s t)
-  modules-stand named here some = record {
+  pub modules-had : AreNamed marks ws → (first ≢ 0 → is_open marks first ≡ true) → HasWord (first ∷ ws) → HasModules (lists_in s) (task_in s t)
+  modules-had named here some = record {
     some_module = subst (λ z. 1 ≤ length z) (sym list-is) (some-filter (first ∷ ws) some);
     most = omega (arith, ap length list-is, filter-few (first ∷ ws), ap length is, range-few s a n, size, most-is s);
     modules = subst (AllByRecursion (λ m. has m (map module_address (lists_in s).modules) ≡ true)) (sym list-is)
@@ -149,14 +149,14 @@ module _ (s : List ℕ) (marks : List Bool) (t first a n : ℕ) (ws : List ℕ) 
   members : HasModules (lists_in s) (task_in s t) → (k : ℕ) → k < length (first ∷ ws) → get_or (first ∷ ws) k 0 ≢ 0 → has (get_or (first ∷ ws) k 0) (map module_address (lists_in s).modules) ≡ true
   members h = filter-all (λ m. has m (map module_address (lists_in s).modules) ≡ true) (first ∷ ws) (subst (AllByRecursion (λ m. has m (map module_address (lists_in s).modules) ≡ true)) list-is h.modules)
 
-  pub stand-named : HasModules (lists_in s) (task_in s t) → AreNamed marks ws
-  stand-named h k low some = has-open (get_or ws k 0) (members h (suc k) (omega (arith, low)) some)
+  pub had-named : HasModules (lists_in s) (task_in s t) → AreNamed marks ws
+  had-named h k low some = has-open (get_or ws k 0) (members h (suc k) (omega (arith, low)) some)
 
-  pub stand-first : HasModules (lists_in s) (task_in s t) → first ≢ 0 → is_open marks first ≡ true
-  stand-first h some = has-open first (members h 0 (omega arith) some)
+  pub had-first : HasModules (lists_in s) (task_in s t) → first ≢ 0 → is_open marks first ≡ true
+  had-first h some = has-open first (members h 0 (omega arith) some)
 
-  pub stand-word : HasModules (lists_in s) (task_in s t) → first ≡ 0 → HasWord ws
-  stand-word h none = on (filter-some (first ∷ ws) (subst (λ z. 1 ≤ length z) list-is h.some_module))
+  pub had-word : HasModules (lists_in s) (task_in s t) → first ≡ 0 → HasWord ws
+  had-word h none = on (filter-some (first ∷ ws) (subst (λ z. 1 ≤ length z) list-is h.some_module))
     where
       at-word : (k : ℕ) → k < length (first ∷ ws) → get_or (first ∷ ws) k 0 ≢ 0 → HasWord ws
       at-word zero low some = absurd (some none)

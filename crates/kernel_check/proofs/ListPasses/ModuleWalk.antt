@@ -5,7 +5,7 @@ use Rattle.kernel_lists.specs.GetvecChain.Tiling.{blocks_in}
 use Rattle.kernel_lists.specs.TaskBlock.Lists.{modules_in}
 use Rattle.kernel_model.specs.KernelRecord.KernelRanges.{IsModuleIn}
 use Rattle.kernel_model.specs.KernelRecord.Recovered.{lists_in, module_in}
-use Rattle.kernel_model.specs.KernelRecord.ValidBlocks.{HasBlock, ModulesStand, last_module_word}
+use Rattle.kernel_model.specs.KernelRecord.ValidBlocks.{AreValidModules, HasBlock, last_module_word}
 
 abbrev pub IsInBlock : List ℕ → ℕ → Type 0
 IsInBlock s m = HasBlock (blocks_in s) m (last_module_word (module_in s m))
@@ -44,6 +44,6 @@ from-lists : (s : List ℕ) (ms : List ℕ) → AllByRecursion (λ x. HasBlock (
 from-lists s [] all = tt
 from-lists s (m ∷ ms) all = (all.0, from-lists s ms all.1)
 
-pub modules-stand : (s : List ℕ) → AllByRecursion (IsInBlock s) (modules_in s) ↔ ModulesStand (lists_in s)
+pub modules-in-blocks : (s : List ℕ) → AllByRecursion (IsInBlock s) (modules_in s) ↔ AreValidModules (lists_in s)
 unfolding lists_in
-modules-stand s = (to-lists s (modules_in s), from-lists s (modules_in s))
+modules-in-blocks s = (to-lists s (modules_in s), from-lists s (modules_in s))

@@ -11,7 +11,7 @@ use Rattle.kernel_model.specs.KernelRecord.Root.{number_words, resident_data, ro
 use Rattle.kernel_model.specs.KernelRecord.Task.{filled}
 use Rattle.kernel_model.specs.KernelRecord.Versions.{highest_id_of}
 use Rattle.kernel_model.proofs.KernelRecord.RootCounts.{RootWords, root-held}
-use Rattle.store_claims.specs.AdoptionLaw.Passes.{RootStands}
+use Rattle.store_claims.specs.AdoptionLaw.Passes.{IsValidRoot}
 use Rattle.kernel_check.specs.ListPasses.RootRules.{HasRootWords, NumbersMayBe}
 
 -- ---- rows of zeros
@@ -54,7 +54,7 @@ module _ (s : List ℕ) where
   unfolding lists_in
   the-residents = refl
 
-  pub numbers-from : RootStands s → NumbersMayBe s
+  pub numbers-from : IsValidRoot s → NumbersMayBe s
   unfolding lists_in
   numbers-from r = record { size = r.size; version = r.version; store_size = r.store_size; period = r.period }
 
@@ -62,7 +62,7 @@ module _ (s : List ℕ) where
   unfolding lists_in
   numbers-to n = (n.store_size, n.period)
 
-  pub words-from : RootStands s → HasRootWords s
+  pub words-from : IsValidRoot s → HasRootWords s
   words-from r =
       let w : RootWords s l = root-held s l (get_or s 102 0) r.words in
       let n = w.numbers in
@@ -87,7 +87,7 @@ module _ (s : List ℕ) where
   resident-word (inl none) = none ∙ sym (ap resident_data (the-residents ∙ ap (λ w. not (eqb w 0)) none))
   resident-word (inr some) = some ∙ sym (ap resident_data (the-residents ∙ ap (λ w. not (eqb w 0)) some))
 
-  pub root-from : NumbersMayBe s → HasRootWords s → RootStands s
+  pub root-from : NumbersMayBe s → HasRootWords s → IsValidRoot s
   root-from n w = record {
     size = n.size ∙ sym the-size;
     version = subst (λ v. (1 ≤ v) × (v ≤ 2)) (sym the-version) n.version;

@@ -44,20 +44,20 @@ highest-two s w read two = sym (highest-is s ∙ ap (λ b. cond b 63 20) (eq-eqb
 pub highest-one : (s : List ℕ) (w : ℕ) → w ≡ get_or s 111 0 → w ≢ 2 → 20 ≡ highest_id_of (lists_in s).version
 highest-one s w read one = sym (highest-is s ∙ ap (λ b. cond b 63 20) (ne_eqb (get_or s 111 0) 2 (λ e. one (read ∙ e))))
 
-abbrev Stand : List ℕ → (ℕ → ℕ) → ℕ → ℕ → Type 0
-Stand s to i n = (k : ℕ) → k < n → get_or s (120 + (i + k)) 0 ≡ to (i + k)
+abbrev LeadFrom : List ℕ → (ℕ → ℕ) → ℕ → ℕ → Type 0
+LeadFrom s to i n = (k : ℕ) → k < n → get_or s (120 + (i + k)) 0 ≡ to (i + k)
 
 -- the entries from i on stand
-pub holds-entries : (s : List ℕ) (to : ℕ → ℕ) (i n : ℕ) → Stand s to i n ↔ Holds s (entries to i n)
+pub holds-entries : (s : List ℕ) (to : ℕ → ℕ) (i n : ℕ) → LeadFrom s to i n ↔ Holds s (entries to i n)
 holds-entries s to i zero = (λ h. tt, λ h k low. absurd (omega (arith, low)))
 holds-entries s to i (suc n) = (there (holds-entries s to (i + 1) n).0, back (holds-entries s to (i + 1) n).1)
   where
-    there : (Stand s to (i + 1) n → Holds s (entries to (i + 1) n)) → Stand s to i (suc n) → Holds s (entries to i (suc n))
+    there : (LeadFrom s to (i + 1) n → Holds s (entries to (i + 1) n)) → LeadFrom s to i (suc n) → Holds s (entries to i (suc n))
     there more h = (
       (let e : i + 0 ≡ i = omega arith in subst (λ z. get_or s (120 + z) 0 ≡ to z) e (h 0 (omega arith))),
       more (λ k low. (let e : i + suc k ≡ i + 1 + k = omega arith in subst (λ z. get_or s (120 + z) 0 ≡ to z) e (h (suc k) (omega (arith, low))))),
     )
 
-    back : (Holds s (entries to (i + 1) n) → Stand s to (i + 1) n) → Holds s (entries to i (suc n)) → Stand s to i (suc n)
+    back : (Holds s (entries to (i + 1) n) → LeadFrom s to (i + 1) n) → Holds s (entries to i (suc n)) → LeadFrom s to i (suc n)
     back more h zero low = (let e : i ≡ i + 0 = omega arith in subst (λ z. get_or s (120 + z) 0 ≡ to z) e h.0)
     back more h (suc k) low = (let e : i + 1 + k ≡ i + suc k = omega arith in subst (λ z. get_or s (120 + z) 0 ≡ to z) e (more h.1 k (omega (arith, low))))

@@ -13,7 +13,7 @@ use Rattle.kernel_lists.specs.TaskBlock.TaskChain.{id_in, tasks_in}
 use Rattle.kernel_model.specs.KernelRecord.Lists.{Lists}
 use Rattle.kernel_model.specs.KernelRecord.Recovered.{lists_in, task_in}
 use Rattle.kernel_model.specs.KernelRecord.Task.{Task, is_guest_id, task_id}
-use Rattle.kernel_model.specs.KernelRecord.ValidTasks.{IsField, IsGuest, IsResident, IsTask, PrioritiesFall, TasksStand, resident_place}
+use Rattle.kernel_model.specs.KernelRecord.ValidTasks.{AreValidTasks, IsField, IsGuest, IsResident, IsTask, PrioritiesFall, resident_place}
 use Rattle.kernel_model.specs.KernelRecord.Versions.{highest_id_of}
 use Rattle.kernel_check.specs.ListPasses.TaskRules.{HasTaskNumbers, HasResidents}
 use Rattle.kernel_model.proofs.KernelRecord.RootCounts.{highest-low, highest-high}
@@ -159,7 +159,7 @@ few-tasks s each apart = length-apart 64 (map task_id (lists_in s).tasks) apart 
 count-lists : (s : List ℕ) → length (map task_id (lists_in s).tasks) ≡ length (tasks_in s)
 count-lists s = ap length (sym (ids-lists s)) ∙ length-map (tasks_in s) (id_in s)
 
-pub few-lists : (s : List ℕ) → TasksStand (lists_in s) → length (tasks_in s) ≤ 64
+pub few-lists : (s : List ℕ) → AreValidTasks (lists_in s) → length (tasks_in s) ≤ 64
 few-lists s h = omega (arith, few-tasks s h.each h.distinct, count-lists s)
 
 -- so many were counted, and these are left

@@ -6,7 +6,7 @@ use Rattle.kernel_lists.specs.TaskBlock.Lists.{coroutines_in}
 use Rattle.kernel_lists.specs.Coroutines.Active.{active_in}
 use Rattle.kernel_lists.specs.Coroutines.HeldCoroutines.{parent_of}
 use Rattle.kernel_model.specs.KernelRecord.Recovered.{lists_in, task_in}
-use Rattle.kernel_model.specs.KernelRecord.ValidTasks.{CoroutinesStand}
+use Rattle.kernel_model.specs.KernelRecord.ValidTasks.{AreValidCoroutines}
 
 -- The words of the coroutine at c but for its parent.
 pub record HasFrame (s : List ℕ) (c : ℕ) : Type 0 where
@@ -30,6 +30,6 @@ TellsParent s t c = (slice_index s (c + 1) == 0) ≡ not (has c (active_in s t))
 -- The rules of the coroutines of the task at t hold, and each of them tells whether it is active.
 pub record OwnsCoroutines (s : List ℕ) (t : ℕ) : Type 0 where
   -- the rules of its coroutines hold
-  pub stand : CoroutinesStand (lists_in s) (task_in s t)
+  pub valid : AreValidCoroutines (lists_in s) (task_in s t)
   -- what each tells
   pub parents : AllByRecursion (TellsParent s t) (coroutines_in s t)

@@ -26,14 +26,14 @@ const HIGHEST: u32 = 4;
 /// Whether each coroutine has a block of its size, and the active ones of each task are distinct coroutines of the task, and these
 /// alone have parents. Of each task the coroutines are opened, the active ones claimed one by one, and the rest shut again: so it
 /// takes a few looks at each coroutine.
-pub fn coroutines_stand(store: &Store, starts: &Claims, own: &mut Claims) -> bool
+pub fn are_valid_coroutines(store: &Store, starts: &Claims, own: &mut Claims) -> bool
     requires claimed { IsClaimed store.now }
     requires starts { OpensStarts store.now starts.now }
     requires shut { IsShut store.now own.old }
     ensures { IsTrue result ↔ AllByRecursion (OwnsCoroutines store.now) (tasks_in store.now) }
 {
     for t in tasks(store) {
-        if !own_coroutines_stand(store, starts, own, t) {
+        if !are_valid_own_coroutines(store, starts, own, t) {
             return false;
         }
     }
@@ -41,7 +41,7 @@ pub fn coroutines_stand(store: &Store, starts: &Claims, own: &mut Claims) -> boo
 }
 
 // The same of the task at t.
-fn own_coroutines_stand(store: &Store, starts: &Claims, own: &mut Claims, t: u32) -> bool
+fn are_valid_own_coroutines(store: &Store, starts: &Claims, own: &mut Claims, t: u32) -> bool
     requires tiled { IsTiled store.now }
     requires starts { OpensStarts store.now starts.now }
     requires shut { IsShut store.now own.old }
@@ -49,7 +49,7 @@ fn own_coroutines_stand(store: &Store, starts: &Claims, own: &mut Claims, t: u32
     ensures answer { IsTrue result ↔ OwnsCoroutines store.now t }
     ensures shut { OnTrue result (IsShut store.now own.new) }
 {
-    if !bodies_stand(store, starts, t) {
+    if !are_valid_bodies(store, starts, t) {
         return false;
     }
     open_coroutines(store, own, t);
@@ -64,7 +64,7 @@ fn own_coroutines_stand(store: &Store, starts: &Claims, own: &mut Claims, t: u32
 }
 
 // Whether each of its coroutines has a block of its size.
-fn bodies_stand(store: &Store, starts: &Claims, t: u32) -> bool
+fn are_valid_bodies(store: &Store, starts: &Claims, t: u32) -> bool
     requires tiled { IsTiled store.now }
     requires starts { OpensStarts store.now starts.now }
     requires can { CanPass store.now t }
@@ -72,7 +72,7 @@ fn bodies_stand(store: &Store, starts: &Claims, t: u32) -> bool
         (λ c. IsCoroutine (lists_in store.now) (coroutine_in store.now c)) (coroutines_in store.now t) }
 {
     for c in coroutine_list(store, t) {
-        if !body_stands(store, starts, c) {
+        if !is_valid_body(store, starts, c) {
             return false;
         }
     }
@@ -80,7 +80,7 @@ fn bodies_stand(store: &Store, starts: &Claims, t: u32) -> bool
 }
 
 // The same of the coroutine at c.
-fn body_stands(store: &Store, starts: &Claims, c: u32) -> bool
+fn is_valid_body(store: &Store, starts: &Claims, c: u32) -> bool
     requires tiled { IsTiled store.now }
     requires starts { OpensStarts store.now starts.now }
     ensures { IsTrue result ↔ IsCoroutine (lists_in store.now) (coroutine_in store.now c) }

@@ -12,7 +12,7 @@ use kernel_lists::{TcbField, coroutine_list, field};
 use word_store::{Store, word_at};
 
 /// Whether the words 17 to 20 of the task block at t, and the words of its coroutines, stand, where these have their parents.
-pub(crate) fn frames_stand(store: &Store, t: u32) -> bool
+pub(crate) fn holds_frames(store: &Store, t: u32) -> bool
     requires can { CanPass store.now t }
     requires parents { AllByRecursion (HasParent store.now t) (coroutines_in store.now t) }
     ensures { IsTrue result ↔ Holds store.now (words_of_coroutines t (coroutines_of store.now t)) }
@@ -22,7 +22,7 @@ pub(crate) fn frames_stand(store: &Store, t: u32) -> bool
         return false;
     }
     for c in coroutine_list(store, t) {
-        if !frame_stands(store, c) {
+        if !has_frame(store, c) {
             return false;
         }
     }
@@ -30,7 +30,7 @@ pub(crate) fn frames_stand(store: &Store, t: u32) -> bool
 }
 
 // Whether the words of the coroutine at c stand, but for its parent.
-fn frame_stands(store: &Store, c: u32) -> bool
+fn has_frame(store: &Store, c: u32) -> bool
     ensures { IsTrue result ↔ HasFrame store.now c }
 {
     if word_at(store, c, 5) != c {

@@ -28,7 +28,7 @@ const FIRST_SAVED: u32 = 11;
 const AFTER_SAVED: u32 = 17;
 
 /// Whether the task at t is as a guest must be, but for what is asked of all tasks.
-pub(crate) fn guest_stands(store: &Store, starts: &Claims, modules: &Claims, t: u32) -> bool
+pub(crate) fn is_valid_guest(store: &Store, starts: &Claims, modules: &Claims, t: u32) -> bool
     requires claimed { IsClaimed store.now }
     requires starts { OpensStarts store.now starts.now }
     requires modules { OpensMembers store.now (modules_in store.now) modules.now }
@@ -121,7 +121,7 @@ pub(crate) fn has_word(words: &[u32]) -> bool
 }
 
 /// Whether the task at t is as a resident must be, but for what is asked of all tasks.
-pub(crate) fn resident_stands(store: &Store, t: u32) -> bool
+pub(crate) fn is_valid_resident(store: &Store, t: u32) -> bool
     requires can { CanPass store.now t }
     requires resident { is_guest_id (id_in store.now t) ≡ false }
     ensures { IsTrue result ↔ IsResident (task_in store.now t) }

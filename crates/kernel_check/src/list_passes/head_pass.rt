@@ -6,13 +6,13 @@ ghost use Rattle.kernel_lists.specs.TaskBlock.TaskChain.{tasks_in};
 ghost use Rattle.kernel_model.specs.KernelRecord.Recovered.{lists_in, task_in};
 ghost use Rattle.kernel_model.specs.KernelRecord.Task.{fault_words, globals_of, queue_bit, stack_of, state_words};
 ghost use Rattle.std.specs.List.{AllByRecursion};
-ghost use Rattle.store_claims.specs.AdoptionLaw.Passes.{HeadStands};
+ghost use Rattle.store_claims.specs.AdoptionLaw.Passes.{HoldsTaskWords};
 ghost use Rattle.kernel_check.specs.ListPasses.ClaimedStore.{IsClaimed};
 ghost use Rattle.kernel_check.specs.ListPasses.CanPass.{CanPass};
 ghost use Rattle.kernel_check.specs.ListPasses.Frames.{OwnsCoroutines};
 ghost use Rattle.kernel_check.specs.ListPasses.TaskRules.{IsDense};
 
-use crate::list_passes::frames::frames_stand;
+use crate::list_passes::frames::holds_frames;
 use crate::list_passes::guests::has_word;
 use kernel_lists::{FIRST_GUEST, TcbField, field, head_words, tasks};
 use kernel_model::numbers::{GLOBAL_WORDS, RESIDENT_WORDS};
@@ -20,14 +20,14 @@ use word_store::Store;
 
 /// Whether the words of tasks stand that follow from others: the bit of the queue, the addresses of stack and globals, the zeros
 /// after a guest's modules, and the fixed words of coroutines.
-pub fn heads_stand(store: &Store) -> bool
+pub fn holds_words_of_tasks(store: &Store) -> bool
     requires claimed { IsClaimed store.now }
     requires own { AllByRecursion (OwnsCoroutines store.now) (tasks_in store.now) }
     ensures { IsTrue result ↔
-        AllByRecursion (HeadStands store.now (lists_in store.now)) (lists_in store.now).tasks }
+        AllByRecursion (HoldsTaskWords store.now (lists_in store.now)) (lists_in store.now).tasks }
 {
     for t in tasks(store) {
-        if !head_stands(store, t) {
+        if !holds_task_words(store, t) {
             return false;
         }
     }
@@ -35,23 +35,23 @@ pub fn heads_stand(store: &Store) -> bool
 }
 
 // The same of the task at t.
-fn head_stands(store: &Store, t: u32) -> bool
+fn holds_task_words(store: &Store, t: u32) -> bool
     requires can { CanPass store.now t }
     requires own { OwnsCoroutines store.now t }
-    ensures { IsTrue result ↔ HeadStands store.now (lists_in store.now) (task_in store.now t) }
+    ensures { IsTrue result ↔ HoldsTaskWords store.now (lists_in store.now) (task_in store.now t) }
 {
-    if !state_stands(store, t) {
+    if !holds_state_words(store, t) {
         return false;
     }
-    if !further_stand(store, t) {
+    if !holds_further_words(store, t) {
         return false;
     }
-    frames_stand(store, t)
+    holds_frames(store, t)
 }
 
 // Whether the words 4 to 16 of the task block at t stand: the bit of the queue, the addresses of stack and globals, and the first
 // module.
-fn state_stands(store: &Store, t: u32) -> bool
+fn holds_state_words(store: &Store, t: u32) -> bool
     requires can { CanPass store.now t }
     ensures { IsTrue result ↔
         Holds store.now (state_words (lists_in store.now).version (task_in store.now t)) }
@@ -65,7 +65,7 @@ fn state_stands(store: &Store, t: u32) -> bool
     if u64::from(field(store, t, TcbField::Globals)) != globals_of(store, t) {
         return false;
     }
-    first_stands(store, t)
+    is_dense_from_first(store, t)
 }
 
 // 1 where the work queue of the task at t is not empty, else 0.
@@ -103,7 +103,7 @@ fn globals_of(store: &Store, t: u32) -> u64
 }
 
 // Whether no module comes after a first word that is 0.
-fn first_stands(store: &Store, t: u32) -> bool
+fn is_dense_from_first(store: &Store, t: u32) -> bool
     requires can { CanPass store.now t }
     ensures { IsTrue result ↔
         (slice_index store.now (t + 10) ≡ first_of (λ m. m) (task_in store.now t).modules 0) }
@@ -124,7 +124,7 @@ fn first_stands(store: &Store, t: u32) -> bool
 }
 
 // Whether the words of the task block at t from 21 on stand: a guest's modules in order, and then zeros.
-fn further_stand(store: &Store, t: u32) -> bool
+fn holds_further_words(store: &Store, t: u32) -> bool
     requires can { CanPass store.now t }
     requires first { slice_index store.now (t + 10)
         ≡ first_of (λ m. m) (task_in store.now t).modules 0 }

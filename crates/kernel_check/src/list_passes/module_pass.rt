@@ -3,7 +3,7 @@ ghost use Rattle.std.specs.Prelude.{◌≡◌, ◌↔◌, ◌≤◌, ◌^◌, �
 ghost use Rattle.kernel_lists.specs.GetvecChain.Tiling.{IsTiled, blocks_in};
 ghost use Rattle.kernel_model.specs.KernelRecord.KernelRanges.{IsModuleIn};
 ghost use Rattle.kernel_model.specs.KernelRecord.Recovered.{lists_in, module_in};
-ghost use Rattle.kernel_model.specs.KernelRecord.ValidBlocks.{HasBlock, ModulesStand, last_module_word};
+ghost use Rattle.kernel_model.specs.KernelRecord.ValidBlocks.{AreValidModules, HasBlock, last_module_word};
 ghost use Rattle.kernel_check.specs.ListPasses.ClaimedStore.{IsClaimed};
 ghost use Rattle.kernel_check.specs.ListPasses.StartMarks.{OpensStarts};
 
@@ -13,13 +13,13 @@ use store_claims::Claims;
 use word_store::{Store, word_at};
 
 /// Whether each module has a block of its size. It looks once at the size word of the block, and at each length.
-pub fn modules_stand(store: &Store, starts: &Claims) -> bool
+pub fn are_valid_modules(store: &Store, starts: &Claims) -> bool
     requires claimed { IsClaimed store.now }
     requires starts { OpensStarts store.now starts.now }
-    ensures { IsTrue result ↔ ModulesStand (lists_in store.now) }
+    ensures { IsTrue result ↔ AreValidModules (lists_in store.now) }
 {
     for m in modules(store) {
-        if !module_stands(store, starts, m) {
+        if !is_valid_module(store, starts, m) {
             return false;
         }
     }
@@ -27,7 +27,7 @@ pub fn modules_stand(store: &Store, starts: &Claims) -> bool
 }
 
 // The same of the module at m.
-fn module_stands(store: &Store, starts: &Claims, m: u32) -> bool
+fn is_valid_module(store: &Store, starts: &Claims, m: u32) -> bool
     requires tiled { IsTiled store.now }
     requires starts { OpensStarts store.now starts.now }
     requires inside { IsModuleIn store.now m }

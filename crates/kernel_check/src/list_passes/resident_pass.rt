@@ -19,7 +19,7 @@ use store_claims::Claims;
 use word_store::{Store, word, word_at};
 
 /// Whether the residents, where there are any, have their block.
-pub fn resident_block_stands(store: &Store, starts: &Claims) -> bool
+pub fn has_resident_block(store: &Store, starts: &Claims) -> bool
     requires claimed { IsClaimed store.now }
     requires starts { OpensStarts store.now starts.now }
     ensures { IsTrue result ↔ ((lists_in store.now).residents ≡ true
@@ -57,24 +57,24 @@ pub(crate) fn has_task(store: &Store, id: u32) -> bool
 
 /// Whether the words of the residents that are no task's stand: those of the key packet and of the fault packet, where they are on
 /// no queue, and the arguments of the key packet.
-pub fn resident_words_stand(store: &Store) -> bool
+pub fn holds_resident_words(store: &Store) -> bool
     requires claimed { IsClaimed store.now }
     ensures { IsTrue result ↔ Holds store.now (resident_words (lists_in store.now)) }
 {
     if !has_residents(store) {
         return true;
     }
-    if !key_packet_stands(store) {
+    if !holds_key_packet(store) {
         return false;
     }
-    if !arguments_stand(store) {
+    if !holds_key_arguments(store) {
         return false;
     }
-    fault_packet_stands(store)
+    holds_fault_packet(store)
 }
 
 // Whether the words of the key packet stand, where it is on no queue.
-fn key_packet_stands(store: &Store) -> bool
+fn holds_key_packet(store: &Store) -> bool
     requires residents { (lists_in store.now).residents ≡ true }
     ensures { IsTrue result ↔ Holds store.now (key_words (lists_in store.now).key) }
 {
@@ -94,7 +94,7 @@ fn has_key_words(store: &Store) -> bool
 }
 
 // Whether its arguments stand.
-fn arguments_stand(store: &Store) -> bool
+fn holds_key_arguments(store: &Store) -> bool
     ensures { IsTrue result ↔ Holds store.now key_arguments }
 {
     word_at(store, KEY_PACKET, FIRST) == 0
@@ -103,7 +103,7 @@ fn arguments_stand(store: &Store) -> bool
 }
 
 // Whether the words of the fault packet stand, where it is there and on no queue.
-fn fault_packet_stands(store: &Store) -> bool
+fn holds_fault_packet(store: &Store) -> bool
     requires claimed { IsClaimed store.now }
     requires residents { (lists_in store.now).residents ≡ true }
     ensures { IsTrue result ↔

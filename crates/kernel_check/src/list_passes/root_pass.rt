@@ -1,15 +1,15 @@
 // The words of the root.
 ghost use Rattle.std.specs.Prelude.{◌≡◌, ◌↔◌, ◌+◌, ◌<◌, ◌≤◌, ℕ, IsTrue, slice_index};
 ghost use Rattle.kernel_model.specs.KernelRecord.Versions.{highest_id_of};
-ghost use Rattle.store_claims.specs.AdoptionLaw.Passes.{RootStands};
+ghost use Rattle.store_claims.specs.AdoptionLaw.Passes.{IsValidRoot};
 ghost use Rattle.kernel_check.specs.ListPasses.RootRules.{HasRootWords, NumbersMayBe};
 
 use kernel_lists::{RootField, root};
 use word_store::{Store, word};
 
 /// Whether the numbers of the root are those that a session may name, and its fixed words stand. It looks at some 80 words.
-pub fn root_stands(store: &Store) -> bool
-    ensures { IsTrue result ↔ RootStands store.now }
+pub fn is_valid_root(store: &Store) -> bool
+    ensures { IsTrue result ↔ IsValidRoot store.now }
 {
     if !numbers_may_be(store) {
         return false;

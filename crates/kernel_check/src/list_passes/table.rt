@@ -15,7 +15,7 @@ use kernel_lists::{RootField, TABLE, TcbField, field, root, tasks};
 use word_store::{Store, word};
 
 /// Whether the task table leads to each task, and to nothing else.
-pub fn table_stands(store: &Store) -> bool
+pub fn holds_table(store: &Store) -> bool
     requires claimed { IsClaimed store.now }
     ensures { IsTrue result ↔ Holds store.now (entries (address_with task_address task_id
         (lists_in store.now).tasks) 1 (highest_id_of (lists_in store.now).version)) }
@@ -29,7 +29,7 @@ pub fn table_stands(store: &Store) -> bool
 }
 
 /// Whether the word of the running task is 0, or the address of a task of the chain.
-pub fn running_stands(store: &Store) -> bool
+pub fn is_valid_running(store: &Store) -> bool
     requires claimed { IsClaimed store.now }
     ensures { IsTrue result ↔ (slice_index store.now (root_address Running)
         ≡ address_of_task (lists_in store.now) (lists_in store.now).running) }

@@ -6,13 +6,13 @@ ghost use Rattle.kernel_lists.specs.TaskBlock.Lists.{modules_in};
 ghost use Rattle.kernel_lists.specs.TaskBlock.TaskChain.{id_in, tasks_in};
 ghost use Rattle.kernel_model.specs.KernelRecord.Recovered.{lists_in, task_in};
 ghost use Rattle.kernel_model.specs.KernelRecord.Task.{task_id};
-ghost use Rattle.kernel_model.specs.KernelRecord.ValidTasks.{IsTask, PrioritiesFall, TasksStand};
+ghost use Rattle.kernel_model.specs.KernelRecord.ValidTasks.{AreValidTasks, IsTask, PrioritiesFall};
 ghost use Rattle.kernel_check.specs.ListPasses.ClaimedStore.{IsClaimed};
 ghost use Rattle.kernel_check.specs.ListPasses.StartMarks.{OpensMembers, OpensStarts};
 ghost use Rattle.kernel_check.specs.ListPasses.CanPass.{CanPass};
 ghost use Rattle.kernel_check.specs.ListPasses.TaskRules.{HasTaskNumbers, HasResidents};
 
-use crate::list_passes::guests::{guest_stands, resident_stands};
+use crate::list_passes::guests::{is_valid_guest, is_valid_resident};
 use crate::list_passes::resident_pass::{has_residents, has_task};
 use crate::list_passes::table::highest_of;
 use kernel_lists::{FIRST_GUEST, TcbField, field, tasks};
@@ -24,16 +24,16 @@ use word_store::Store;
 const MOST_TASKS: u32 = 64;
 
 /// Whether each task is as it must be, no two have one number, priorities fall, and all residents are there or none is.
-pub fn tasks_stand(store: &Store, starts: &Claims, modules: &Claims) -> bool
+pub fn are_valid_tasks(store: &Store, starts: &Claims, modules: &Claims) -> bool
     requires claimed { IsClaimed store.now }
     requires starts { OpensStarts store.now starts.now }
     requires modules { OpensMembers store.now (modules_in store.now) modules.now }
-    ensures { IsTrue result ↔ TasksStand (lists_in store.now) }
+    ensures { IsTrue result ↔ AreValidTasks (lists_in store.now) }
 {
     if !are_few(store) {
         return false;
     }
-    if !each_stands(store, starts, modules) {
+    if !is_each_valid(store, starts, modules) {
         return false;
     }
     if !priorities_fall(store) {
@@ -42,11 +42,11 @@ pub fn tasks_stand(store: &Store, starts: &Claims, modules: &Claims) -> bool
     if !numbers_differ(store) {
         return false;
     }
-    residents_stand(store)
+    has_all_residents(store)
 }
 
 // Whether each task is as it must be.
-fn each_stands(store: &Store, starts: &Claims, modules: &Claims) -> bool
+fn is_each_valid(store: &Store, starts: &Claims, modules: &Claims) -> bool
     requires claimed { IsClaimed store.now }
     requires starts { OpensStarts store.now starts.now }
     requires modules { OpensMembers store.now (modules_in store.now) modules.now }
@@ -54,7 +54,7 @@ fn each_stands(store: &Store, starts: &Claims, modules: &Claims) -> bool
         AllByRecursion (IsTask (lists_in store.now)) (lists_in store.now).tasks }
 {
     for t in tasks(store) {
-        if !task_stands(store, starts, modules, t) {
+        if !is_valid_task(store, starts, modules, t) {
             return false;
         }
     }
@@ -62,7 +62,7 @@ fn each_stands(store: &Store, starts: &Claims, modules: &Claims) -> bool
 }
 
 // Whether the task at t is.
-fn task_stands(store: &Store, starts: &Claims, modules: &Claims, t: u32) -> bool
+fn is_valid_task(store: &Store, starts: &Claims, modules: &Claims, t: u32) -> bool
     requires claimed { IsClaimed store.now }
     requires starts { OpensStarts store.now starts.now }
     requires modules { OpensMembers store.now (modules_in store.now) modules.now }
@@ -73,9 +73,9 @@ fn task_stands(store: &Store, starts: &Claims, modules: &Claims, t: u32) -> bool
         return false;
     }
     if field(store, t, TcbField::Id) >= FIRST_GUEST {
-        guest_stands(store, starts, modules, t)
+        is_valid_guest(store, starts, modules, t)
     } else {
-        resident_stands(store, t)
+        is_valid_resident(store, t)
     }
 }
 
@@ -159,7 +159,7 @@ fn is_once(store: &Store, id: u32) -> bool
 }
 
 // Whether all residents are there or none is; the reporter of faults may be absent.
-fn residents_stand(store: &Store) -> bool
+fn has_all_residents(store: &Store) -> bool
     requires claimed { IsClaimed store.now }
     ensures { IsTrue result ↔ HasResidents (lists_in store.now) }
 {

@@ -31,7 +31,7 @@ pub record Parts (v : List ℕ) (t : ℕ) (cs act : List ℕ) : Type 0 where
 pub record Built (v : List ℕ) (t : ℕ) (cs act : List ℕ) : Type 0 where
   pub list : coroutines_in v t ≡ cs
   pub active : active_in v t ≡ act
-  pub stand : HasCoroutines v t
+  pub valid : HasCoroutines v t
 
 -- members of the list are no root and no task, and lie in the store
 members-inner : (v : List ℕ) (t : ℕ) (cs : List ℕ) → AllByRecursion (IsNode v coroutine_link coroutine_size) cs → IsApart (range_with_len t 23 ++ words_of coroutine_size cs)
@@ -55,18 +55,18 @@ members-inner v t cs nodes apart (c ∷ act) members =
 
 pub built : (v : List ℕ) (t : ℕ) (cs act : List ℕ) → Parts v t cs act → Built v t cs act
 built v t cs act p =
-    let nodes : AllByRecursion (IsNode v coroutine_link coroutine_size) cs = subst (AllByRecursion (IsNode v coroutine_link coroutine_size)) p.list.list p.list.stands.nodes in
+    let nodes : AllByRecursion (IsNode v coroutine_link coroutine_size) cs = subst (AllByRecursion (IsNode v coroutine_link coroutine_size)) p.list.list p.list.valid.nodes in
     let inner = members-inner v t cs nodes p.apart act p.members in
     let active : active_in v t ≡ act = outwards-is (length v) v t 0 (t + 18) act p.out (inl refl) inner.0 (length-apart (length v) act p.distinct inner.1) in
     record {
       list = p.list.list;
       active = active;
-      stand =
+      valid =
           record {
             tiled = p.tiled;
             task = p.task;
             elsewhere = ap (has p.task.first) p.list.list ∙ p.elsewhere;
-            list = p.list.stands;
+            list = p.list.valid;
             apart = subst (λ z. IsApart (range_with_len t 23 ++ words_of coroutine_size z)) (sym p.list.list) p.apart;
             blocks = subst (AllByRecursion (HasBlock v)) (sym p.list.list) p.blocks;
             active = subst (LeadsOut v t 0 (t + 18)) (sym active) p.out;

@@ -47,8 +47,8 @@ create-exchange s v t k c entry u h made =
           made.words ∙ ap (λ z. set z (t + 17) c) (with_words-written made.taken c (new_words c (get_or s (t + 17) 0) entry u)) ∙ sym words;
     }
   where
-    stand : Built s t (map address_of k.list) k.active
-    stand = held-coroutines s t k.active k.list h.coroutines
+    built-lists : Built s t (map address_of k.list) k.active
+    valid = held-coroutines s t k.active k.list h.coroutines
 
     after : AfterTake s made.taken (highest u) c
     after = after_take s made.taken (highest u) c h.coroutines.tiled made.block
@@ -62,14 +62,14 @@ create-exchange s v t k c entry u h made =
         on : (b : Bool) → has c k.active ≡ b → b ≡ false
         on false e = refl
         on true e =
-            absurd (some-none (sym (known-block s t c stand.stand (ap (has c) stand.list ∙ all-has (λ a. has a (map address_of k.list) ≡ true) c k.active h.coroutines.members e)).block ∙ after.was_none))
+            absurd (some-none (sym (known-block s t c built-lists.valid (ap (has c) built-lists.list ∙ all-has (λ a. has a (map address_of k.list) ≡ true) c k.active h.coroutines.members e)).block ∙ after.was_none))
 
 pub delete-exchange : (s : List ℕ) (t : ℕ) (k : TaskCoroutines) (front : List Coroutine) (x : Coroutine) (back : List Coroutine) → HoldsCoroutines s t (with_list (front ++ x ∷ back) k)
     → idle_answer s t x.address ≡ Ok tt → DeleteExchange s (deleted s t x.address) t k front x back
 delete-exchange s t k front x back h answer =
-    let stand : Built s t (map address_of (front ++ x ∷ back)) k.active = held-coroutines s t k.active (front ++ x ∷ back) h.coroutines in
+    let built-lists : Built s t (map address_of (front ++ x ∷ back)) k.active = held-coroutines s t k.active (front ++ x ∷ back) h.coroutines in
     let block : HasCoroutineBlock s x = (all-back (HasCoroutineBlock s) front (x ∷ back) h.coroutines.blocks).0 in
-    let same : SameBlocks s (unlinked s t x.address) = unlinked-blocks s t x.address stand.stand (idle s t x.address tt (sym answer)).known in
+    let same : SameBlocks s (unlinked s t x.address) = unlinked-blocks s t x.address built-lists.valid (idle s t x.address tt (sym answer)).known in
     record {
       unlinked = unlinked s t x.address;
       exchange =

@@ -17,7 +17,7 @@ use Rattle.kernel_lists.proofs.LinkedList.Insertion.{times-front_cell}
 use Rattle.kernel_lists.proofs.LinkedList.Lists.{list-remove, list-removed}
 use Rattle.kernel_lists.specs.LinkedList.Linked.{IsListAt}
 use Rattle.kernel_lists.proofs.LinkedList.Members.{has-times, without-has, without-keeps, has-not, cell-cases}
-use Rattle.kernel_lists.proofs.LinkedList.Places.{NodePlace, stands}
+use Rattle.kernel_lists.proofs.LinkedList.Places.{NodePlace, member-place}
 use Rattle.kernel_lists.proofs.GetvecChain.UsedBlocks.{UsedBlock, used_at-apart, used_at-is}
 use Rattle.kernel_lists.proofs.GetvecChain.Writes.{SameBlocks, SameBlocks-kept}
 use Rattle.kernel_lists.specs.TaskBlock.Lists.{coroutine_link, coroutines_in}
@@ -41,7 +41,7 @@ unlinked s t c = linked_out s coroutine_link (cell_of s t c) c
 -- the word before c is the head, or the link of another coroutine
 cell-is : (s : List ℕ) (t c : ℕ) → HasCoroutines s t → is_known s t c ≡ true → (cell_of s t c ≡ t + 17) ⊎ ((k : ℕ) × (is_known s t k ≡ true) × (cell_of s t c ≡ k + 2))
 cell-is s t c h known =
-    let r : NodePlace coroutine_link (t + 17) c (coroutines_in s t) = stands coroutine_link (t + 17) c (coroutines_in s t) known in
+    let r : NodePlace coroutine_link (t + 17) c (coroutines_in s t) = member-place coroutine_link (t + 17) c (coroutines_in s t) known in
     cell-cases coroutine_link (cell_of s t c) (t + 17) (coroutines_in s t)
     (subst (λ z. 0 < times z (cells coroutine_link (t + 17) (coroutines_in s t))) (sym r.cell)
     (subst (λ z. 0 < times (last_cell coroutine_link (t + 17) r.front) (cells coroutine_link (t + 17) z)) (sym r.whole) (times-front_cell coroutine_link (t + 17) r.front (c ∷ r.back))))
@@ -121,7 +121,7 @@ delete-built s t c h known idle =
     in
     let out : IsListAt x coroutine_link coroutine_size (t + 17) rest = list-remove s x coroutine_link coroutine_size (t + 17) c h.list known (list-removed s coroutine_link coroutine_size (t + 17) c h.list known) in
     let list : IsListAt v coroutine_link coroutine_size (t + 17) (list_at x coroutine_link (t + 17)) =
-    list-same x v coroutine_link coroutine_size (t + 17) out.stands after.same_length (λ a some. after.words a (no_size a (cell-cases coroutine_link a (t + 17) (list_at x coroutine_link (t + 17)) some) out.list))
+    list-same x v coroutine_link coroutine_size (t + 17) out.valid after.same_length (λ a some. after.words a (no_size a (cell-cases coroutine_link a (t + 17) (list_at x coroutine_link (t + 17)) some) out.list))
     in
     let used : (a : ℕ) → a ≢ c → used_at a (blocks_in v) ≡ used_at a (blocks_in s) = λ a ne. after.others a ne ∙ ap (used_at a) blocks.blocks in
     let no_first : h.task.first ≢ c = λ e. false≢true (sym h.elsewhere ∙ ap (λ z. has z (coroutines_in s t)) e ∙ known) in
@@ -140,7 +140,7 @@ delete-built s t c h known idle =
     })
   where
     r : NodePlace coroutine_link (t + 17) c (coroutines_in s t)
-    r = stands coroutine_link (t + 17) c (coroutines_in s t) known
+    r = member-place coroutine_link (t + 17) c (coroutines_in s t) known
 
     gone : times c (without c (coroutines_in s t)) ≡ 0
     gone =

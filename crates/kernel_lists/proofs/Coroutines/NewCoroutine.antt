@@ -126,7 +126,7 @@ create-built s x t c entry u h taken =
     (record { node = node; apart = λ a. omega (arith, apart a, times-append a (range_with_len t 23) (words_of coroutine_size (coroutines_in s t)), head_hit a) })
     in
     let pushed : IsListAt v coroutine_link coroutine_size (t + 17) (c ∷ list_at x coroutine_link (t + 17)) =
-    list-push x v coroutine_link coroutine_size (t + 17) c of_x.stands fresh
+    list-push x v coroutine_link coroutine_size (t + 17) c of_x.valid fresh
     (record {
       same_length = length-set (with_words x c (new_words c (get_or s (t + 17) 0) entry u)) (t + 17) c ∙ length-with_words x c (new_words c (get_or s (t + 17) 0) entry u);
       to = own 2 (omega arith) ∙ sym (task_in_x 17 (omega arith));

@@ -6,7 +6,7 @@ use Rattle.kernel_lists.specs.OwnedWords.Owned.{Holds, Pairs, owners, written}
 use Rattle.kernel_lists.proofs.OwnedWords.Exchanges.{exchange-as, exchange-back}
 use Rattle.kernel_lists.proofs.OwnedWords.MemberExchanges.{Holds-two, owners-two, two-Holds}
 use Rattle.kernel_lists.proofs.OwnedWords.OwnedWords.{Holds-append, Holds-left, Holds-right, owners-append}
-use Rattle.kernel_lists.specs.Coroutines.CoroutineExchanges.{Rewrites, standing}
+use Rattle.kernel_lists.specs.Coroutines.CoroutineExchanges.{Rewrites, pairs_in}
 
 pub record AreSame (A B : Pairs) : Type 0 where
   pub count : (a : ℕ) → owners a A ≡ owners a B
@@ -67,13 +67,13 @@ exchange-same L M A B C D x a b =
     exchange-back M L D C (exchange-as M L D A C (exchange-back L M A D (exchange-as L M A B D x (λ n. sym (b.count n)) b.there b.back)) (λ n. sym (a.count n)) a.there a.back)
 
 -- words that stand in a store
-standing-held : (s : List ℕ) (A : Pairs) → Holds s A → standing s A ≡ A
-standing-held s [] h = refl
-standing-held s (e ∷ es) h = ap (λ w. (e.0, w) ∷ standing s es) h.0 ∙ ap (λ z. (e.0, e.1) ∷ z) (standing-held s es h.1)
+pairs_in-held : (s : List ℕ) (A : Pairs) → Holds s A → pairs_in s A ≡ A
+pairs_in-held s [] h = refl
+pairs_in-held s (e ∷ es) h = ap (λ w. (e.0, w) ∷ pairs_in s es) h.0 ∙ ap (λ z. (e.0, e.1) ∷ z) (pairs_in-held s es h.1)
 
-pub rewrites : (s v : List ℕ) (before after old new : Pairs) → Holds s before → Exchange before after old new → standing s new ≡ standing s old → v ≡ written new s → Rewrites s v before after new
+pub rewrites : (s v : List ℕ) (before after old new : Pairs) → Holds s before → Exchange before after old new → pairs_in s new ≡ pairs_in s old → v ≡ written new s → Rewrites s v before after new
 rewrites s v before after old new h x same words =
     record {
-      exchange = subst (λ z. Exchange before after z new) (sym (same ∙ standing-held s old (x.first.opens s h).1)) x;
+      exchange = subst (λ z. Exchange before after z new) (sym (same ∙ pairs_in-held s old (x.first.opens s h).1)) x;
       writes = words;
     }

@@ -22,7 +22,7 @@ use Rattle.kernel_lists.proofs.OwnedWords.OwnedWords.{Holds-left, Holds-right}
 use Rattle.kernel_lists.proofs.OwnedWords.Parts.{exchange-within}
 use Rattle.word_store.specs.declared.registers.Regs.{Regs}
 use Rattle.kernel_lists.specs.TaskBlock.Lists.{coroutine_link}
-use Rattle.kernel_lists.specs.Coroutines.CoroutineExchanges.{CallExchange, EndExchange, HoldsCoroutines, ResumeExchange, Rewrites, TaskCoroutines, WaitExchange, current_of, function_of, words_of_coroutines, standing, switch_words, with_frame, with_saved}
+use Rattle.kernel_lists.specs.Coroutines.CoroutineExchanges.{CallExchange, EndExchange, HoldsCoroutines, ResumeExchange, Rewrites, TaskCoroutines, WaitExchange, current_of, function_of, words_of_coroutines, pairs_in, switch_words, with_frame, with_saved}
 use Rattle.kernel_lists.specs.Coroutines.CoroutineWords.{as_current, as_parent, bottom, coroutine_size, current_in, function_in, parent_in, saved_p, saved_pc}
 use Rattle.kernel_lists.specs.Coroutines.HeldCoroutines.{Coroutine, HeldCoroutines, address_of, coroutine_words, first_active, parent_of}
 use Rattle.kernel_lists.specs.Coroutines.Refusals.{first_refusal, has_parent, idle_answer, is_known, is_within, resume_answer, wait_answer}
@@ -207,7 +207,7 @@ member s t c xs act h some =
     held-list address_of (coroutine_words t act) coroutine_link coroutine_size (are_coroutines s t act) s (t + 17) xs h.held
     in
     let apart : IsApart (map address_of xs) =
-    subst IsApart list.list (nodes-apart s coroutine_link coroutine_size (t + 17) (list_at s coroutine_link (t + 17)) list.stands)
+    subst IsApart list.list (nodes-apart s coroutine_link coroutine_size (t + 17) (list_at s coroutine_link (t + 17)) list.valid)
     in
     record { front = f.front; member = f.member; back = f.back; is = f.is; at = f.at; once = omega (arith, apart c, has-times c (map address_of xs) some) }
 
@@ -240,7 +240,7 @@ module _ (s : List ℕ) (t : ℕ) (k : TaskCoroutines) (h : HoldsCoroutines s t 
   -- any switch, where these are the parents' words that it writes
   switch-rewrites : (v : List ℕ) (p pc : ℕ) (act : List ℕ) (w : ℕ → Bool) → ((a : ℕ) → w a ≡ false → parent_of t act a ≡ parent_of t k.active a) → (old new : Pairs)
       → AreSame (flat_map (λ x. cond (w x.address) (parent t k.active x) []) k.list) old → AreSame (flat_map (λ x. cond (w x.address) (parent t act x) []) k.list) new
-      → ((p' pc' : ℕ) → standing s (new ++ switch_words t k p pc (first_active act 0)) ≡ standing s (old ++ switch_words t k p' pc' (current_of k)))
+      → ((p' pc' : ℕ) → pairs_in s (new ++ switch_words t k p pc (first_active act 0)) ≡ pairs_in s (old ++ switch_words t k p' pc' (current_of k)))
       → v ≡ written (new ++ switch_words t k p pc (first_active act 0)) s
       → Rewrites s v (words_of_coroutines t k) (words_of_coroutines t (record (with_saved p pc k) { active = act })) (new ++ switch_words t k p pc (first_active act 0))
   switch-rewrites v p pc act w same old new of_old of_new addresses words =
@@ -293,7 +293,7 @@ module _ (s : List ℕ) (t : ℕ) (k : TaskCoroutines) (h : HoldsCoroutines s t 
       let split : k.active ≡ d ∷ outwards = parted k.active ne in
       let members : AllByRecursion (λ c. has c (map address_of k.list) ≡ true) (d ∷ outwards) = subst (AllByRecursion (λ c. has c (map address_of k.list) ≡ true)) split h.coroutines.members in
       let apart : IsApart (d ∷ outwards) = subst IsApart split h.coroutines.distinct in
-      let stand : Built s t (map address_of k.list) k.active = held-coroutines s t k.active k.list h.coroutines in
+      let built-lists : Built s t (map address_of k.list) k.active = held-coroutines s t k.active k.list h.coroutines in
       let test : eqb d d ≡ true = grind (arith, nat_tests) in
       record {
         split = split;
@@ -302,7 +302,7 @@ module _ (s : List ℕ) (t : ℕ) (k : TaskCoroutines) (h : HoldsCoroutines s t 
         parent_word =
             all-has (λ c. parent_in s c ≡ parent_of t k.active c) d (map address_of k.list) (held-parents s t k.active k.list h.coroutines) members.0
             ∙ ap (λ z. parent_of t z d) split ∙ ap (λ b. cond b (first_active outwards t) (parent_of t outwards d)) test;
-        next = inward outwards (others stand outwards members.1);
+        next = inward outwards (others built-lists outwards members.1);
       }
     where
       parted : (act : List ℕ) → first_active act 0 ≢ 0 → act ≡ first_active act 0 ∷ drop 1 act
@@ -312,7 +312,7 @@ module _ (s : List ℕ) (t : ℕ) (k : TaskCoroutines) (h : HoldsCoroutines s t 
       others : Built s t (map address_of k.list) k.active → (act : List ℕ) → AllByRecursion (λ c. has c (map address_of k.list) ≡ true) act → AllByRecursion (λ c. c ≢ t) act
       others b [] members = tt
       others b (c ∷ rest) members =
-          ((λ e. absurd (task-apart s t c 0 0 b.stand (ap (has c) b.list ∙ members.0) (omega arith) (omega arith) (omega (arith, e)))), others b rest members.1)
+          ((λ e. absurd (task-apart s t c 0 0 b.valid (ap (has c) b.list ∙ members.0) (omega arith) (omega arith) (omega (arith, e)))), others b rest members.1)
 
       inward : (act : List ℕ) → AllByRecursion (λ c. c ≢ t) act → as_current t (first_active act t) ≡ first_active act 0
       inward [] other = (let test : eqb t t ≡ true = grind (arith, nat_tests) in ap (λ b. cond b 0 t) test)

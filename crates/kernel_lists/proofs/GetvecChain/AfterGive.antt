@@ -7,7 +7,7 @@ use Rattle.kernel_lists.specs.GetvecChain.Give.{given, given_store}
 use Rattle.kernel_lists.specs.GetvecChain.Tiling.{IsTiled, Tiles, blocks_in, used_at}
 use Rattle.kernel_lists.proofs.GetvecChain.Tilings.{IsTiled-by, Tiles-inside, blocks_in-is}
 use Rattle.kernel_lists.proofs.GetvecChain.UsedBlocks.{UsedBlock, is_used_at-true, used_at-before, used_at-is}
-use Rattle.kernel_lists.proofs.GetvecChain.Writes.{StandsIn-same, Tiles-above}
+use Rattle.kernel_lists.proofs.GetvecChain.Writes.{IsBlockIn-same, Tiles-above}
 
 -- where no used block has its data at v, nothing is given
 pub given-none : (v : ℕ) (bs : List Block) → used_at v bs ≡ None → given v bs ≡ bs
@@ -42,7 +42,7 @@ given-Tiles s at (b ∷ bs) v c t e = on (is_used_at v b) refl (λ k. given-Tile
         )
     on false test later e =
         let u = used_at-is s (block_end b) bs v c t.2 e in
-        (t.0, StandsIn-same s r b (get_or-set_other s c.start b.start (c.size + 1) 0 (λ e. absurd (omega (arith, e, u.low, t.1.some)))) t.1, later e)
+        (t.0, IsBlockIn-same s r b (get_or-set_other s c.start b.start (c.size + 1) 0 (λ e. absurd (omega (arith, e, u.low, t.1.some)))) t.1, later e)
 
 -- the other used blocks are those that were
 pub used_at-given-other : (v w : ℕ) (bs : List Block) → w ≢ v → used_at w (given v bs) ≡ used_at w bs

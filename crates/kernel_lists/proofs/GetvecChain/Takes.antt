@@ -10,7 +10,7 @@ use Rattle.kernel_lists.specs.GetvecChain.Take.{left_over, split_run, taken, tak
 use Rattle.kernel_lists.proofs.GetvecChain.Runs.{FoundRun, begins_run-true, first_run-found, run-Tiles}
 use Rattle.kernel_lists.proofs.GetvecChain.SizeWords.{split_run-Follow, with_size_words-Tiles, with_size_words-outside}
 use Rattle.kernel_lists.proofs.GetvecChain.UsedBlocks.{used_at-before, used_at-is}
-use Rattle.kernel_lists.proofs.GetvecChain.Writes.{StandsIn-same}
+use Rattle.kernel_lists.proofs.GetvecChain.Writes.{IsBlockIn-same}
 
 -- words outside of the run stay
 pub taken_store-outside : (s : List ℕ) (n at a : ℕ) (run : Run) → 2 ≤ n → n % 2 ≡ 0 → FoundRun s n at run → (run.start ≤ a → run.end ≤ a) → get_or (taken_store s run n) a 0 ≡ get_or s a 0
@@ -48,7 +48,7 @@ taken-Tiles s n at (b ∷ bs) run some even t e = on (begins_run n (b ∷ bs)) r
         filled r enough even' = split_run-Follow b.start (b.start + r) n some even (omega (arith, enough)) (omega (arith, even'))
     on false test later e =
         let f = first_run-found s n (block_end b) bs run t.2 e in
-        (t.0, StandsIn-same s (taken_store s run n) b (taken_store-outside s n (block_end b) b.start run some even f (λ low. absurd (omega (arith, low, f.low, t.1.some)))) t.1, later e)
+        (t.0, IsBlockIn-same s (taken_store s run n) b (taken_store-outside s n (block_end b) b.start run some even f (λ low. absurd (omega (arith, low, f.low, t.1.some)))) t.1, later e)
 
 used_at-free : (v : ℕ) (b : Block) (bs : List Block) → b.free ≡ true → used_at v (b ∷ bs) ≡ used_at v bs
 used_at-free v b bs free = ap (λ f. cond (not f && eqb (b.start + 1) v) (Some b) (used_at v bs)) free

@@ -3,7 +3,7 @@ use Rattle.std.proofs.Common.{◌≡◌, ◌≢◌, ℕ, zero, suc, ◌+◌, ◌
 use Rattle.std.proofs.lemmas.Bool.Decides.{nat_tests}
 use Rattle.kernel_lists.specs.declared.getvec_chain.pieces.Block.{Block}
 use Rattle.kernel_lists.specs.GetvecChain.Block.{block_end, block_of_word, size_word}
-use Rattle.kernel_lists.specs.GetvecChain.Tiling.{IsTiled, IsTiledFrom, StandsIn, Tiles, blocks_from, blocks_in, first_blocks}
+use Rattle.kernel_lists.specs.GetvecChain.Tiling.{IsBlockIn, IsTiled, IsTiledFrom, Tiles, blocks_from, blocks_in, first_blocks}
 
 -- blocks end two words before the store does, or sooner
 pub Tiles-inside : (s : List ℕ) (at : ℕ) (bs : List Block) → Tiles s at bs → at + 2 ≤ length s
@@ -72,7 +72,7 @@ Tiles-at_end s at (b ∷ bs) t end = absurd (omega (arith, t.0, t.1.some, Tiles-
 pub record NextBlock (s : List ℕ) (at : ℕ) (b : Block) : Type 0 where
   pub is : blocks_from s at ≡ b ∷ blocks_from s (block_end b)
   pub start : b.start ≡ at
-  pub stands : StandsIn s b
+  pub valid : IsBlockIn s b
   pub tiled : IsTiledFrom s (block_end b)
   pub inside : block_end b + 2 ≤ length s
 
@@ -88,7 +88,7 @@ IsTiledFrom-next s at b t some read = first_of_list (blocks_from s at) refl t
         record {
           is = is ∙ ap (λ z. z ∷ bs) same ∙ ap (λ z. b ∷ z) (sym (blocks_from-is s (block_end b) bs tiles));
           start = ap (λ z. z.start) (sym same) ∙ t.0;
-          stands = subst (StandsIn s) same t.1;
+          valid = subst (IsBlockIn s) same t.1;
           tiled = IsTiledFrom-by s (block_end b) bs tiles;
           inside = Tiles-inside s (block_end b) bs tiles;
         }

@@ -4,13 +4,13 @@ use Rattle.std.proofs.lemmas.Bool.Decides.{nat_tests}
 use Rattle.std.specs.List.{find}
 use Rattle.kernel_lists.specs.declared.getvec_chain.pieces.Block.{Block}
 use Rattle.kernel_lists.specs.GetvecChain.Block.{block_end, has_data, is_used_at}
-use Rattle.kernel_lists.specs.GetvecChain.Tiling.{StandsIn, Tiles, holding, used_at}
+use Rattle.kernel_lists.specs.GetvecChain.Tiling.{IsBlockIn, Tiles, holding, used_at}
 use Rattle.kernel_lists.proofs.GetvecChain.Tilings.{Tiles-inside}
 
 -- a block among those that stand from an address on
 pub record IsAmong (s : List ℕ) (at : ℕ) (b : Block) : Type 0 where
   pub low : at ≤ b.start
-  pub stands : StandsIn s b
+  pub valid : IsBlockIn s b
   pub inside : block_end b + 2 ≤ length s
 
 pub find-among : (s : List ℕ) (at : ℕ) (bs : List Block) (test : Block → Bool) (b : Block) → Tiles s at bs → find test bs ≡ Some b → IsAmong s at b × (test b ≡ true)
@@ -20,8 +20,8 @@ find-among s at (c ∷ bs) test b t e = on (test c) refl (λ k. find-among s (bl
     on : (x : Bool) → test c ≡ x → (find test bs ≡ Some b → IsAmong s (block_end c) b × (test b ≡ true)) → cond x (Some c) (find test bs) ≡ Some b → IsAmong s at b × (test b ≡ true)
     on true is later e =
         let same : c ≡ b = cc in
-        subst (λ z. IsAmong s at z × (test z ≡ true)) same (record { low = omega (arith, t.0); stands = t.1; inside = Tiles-inside s (block_end c) bs t.2 }, is)
-    on false is later e = (let l = later e in (record { low = omega (arith, l.0.low, t.0); stands = l.0.stands; inside = l.0.inside }, l.1))
+        subst (λ z. IsAmong s at z × (test z ≡ true)) same (record { low = omega (arith, t.0); valid = t.1; inside = Tiles-inside s (block_end c) bs t.2 }, is)
+    on false is later e = (let l = later e in (record { low = omega (arith, l.0.low, t.0); valid = l.0.valid; inside = l.0.inside }, l.1))
 
 -- the used block whose data begin at v
 pub record UsedBlock (s : List ℕ) (at v : ℕ) (b : Block) : Type 0 where
@@ -48,9 +48,9 @@ used_at-is s at bs v b t e =
     record {
       start = is.1;
       used = is.0;
-      word = among.0.stands.word ∙ ap (λ f. cond f (b.size + 1) b.size) is.0;
-      some = among.0.stands.some;
-      even = among.0.stands.even;
+      word = among.0.valid.word ∙ ap (λ f. cond f (b.size + 1) b.size) is.0;
+      some = among.0.valid.some;
+      even = among.0.valid.even;
       low = among.0.low;
       inside = among.0.inside;
     }
@@ -63,7 +63,7 @@ used_at-found s at bs v b t e = ap (λ z. used_at z bs) (used_at-is s at bs v b 
 pub record HoldingBlock (s : List ℕ) (at a : ℕ) (b : Block) : Type 0 where
   pub above : b.start < a
   pub below : a < block_end b
-  pub stands : StandsIn s b
+  pub valid : IsBlockIn s b
   pub low : at ≤ b.start
   pub inside : block_end b + 2 ≤ length s
 
@@ -79,7 +79,7 @@ pub holding-is : (s : List ℕ) (at : ℕ) (bs : List Block) (a : ℕ) (b : Bloc
 holding-is s at bs a b t e =
     let among = find-among s at bs (λ z. has_data z a) b t e in
     let within = has_data-true b a among.1 in
-    record { above = within.0; below = within.1; stands = among.0.stands; low = among.0.low; inside = among.0.inside }
+    record { above = within.0; below = within.1; valid = among.0.valid; low = among.0.low; inside = among.0.inside }
 
 -- no block begins before the first
 pub used_at-before : (s : List ℕ) (at : ℕ) (bs : List Block) (v : ℕ) → Tiles s at bs → v ≤ at → used_at v bs ≡ None

@@ -3,19 +3,19 @@ use Rattle.std.proofs.Common.{◌≡◌, ℕ, ◌+◌, ◌<◌, ◌≤◌, ◌&&
 use Rattle.std.proofs.lemmas.Bool.Decides.{nat_tests}
 use Rattle.kernel_lists.specs.declared.getvec_chain.pieces.Block.{Block}
 use Rattle.kernel_lists.specs.GetvecChain.Block.{block_end}
-use Rattle.kernel_lists.specs.GetvecChain.Tiling.{IsTiled, StandsIn, Tiles, blocks_in, holding, used_at}
+use Rattle.kernel_lists.specs.GetvecChain.Tiling.{IsBlockIn, IsTiled, Tiles, blocks_in, holding, used_at}
 use Rattle.kernel_lists.proofs.GetvecChain.Tilings.{IsTiled-by, Tiles-inside, blocks_in-is}
 use Rattle.kernel_lists.proofs.GetvecChain.UsedBlocks.{holding-before, used_at-holding}
 
-pub StandsIn-same : (s t : List ℕ) (b : Block) → get_or t b.start 0 ≡ get_or s b.start 0 → StandsIn s b → StandsIn t b
-StandsIn-same s t b same h = record { word = same ∙ h.word; some = h.some; even = h.even }
+pub IsBlockIn-same : (s t : List ℕ) (b : Block) → get_or t b.start 0 ≡ get_or s b.start 0 → IsBlockIn s b → IsBlockIn t b
+IsBlockIn-same s t b same h = record { word = same ∙ h.word; some = h.some; even = h.even }
 
 -- blocks stand in another store too, if each word from the first block to the end word that is no data of a block is the same there
 pub Tiles-kept : (s t : List ℕ) (at : ℕ) (bs : List Block) → length t ≡ length s → ((a : ℕ) → at ≤ a → a + 2 ≤ length s → holding a bs ≡ None → get_or t a 0 ≡ get_or s a 0) → Tiles s at bs → Tiles t at bs
 Tiles-kept s t at [] len same h = (omega (arith, len, h.0), same at (omega arith) (omega (arith, h.0)) refl ∙ h.1)
 Tiles-kept s t at (b ∷ bs) len same h = (
   h.0,
-  StandsIn-same s t b (same b.start (omega (arith, h.0)) (omega (arith, inside, h.0)) first) h.1,
+  IsBlockIn-same s t b (same b.start (omega (arith, h.0)) (omega (arith, inside, h.0)) first) h.1,
   Tiles-kept s t (block_end b) bs len (λ a low high none. same a (omega (arith, low, h.0)) high (later a low ∙ none)) h.2,
 )
   where

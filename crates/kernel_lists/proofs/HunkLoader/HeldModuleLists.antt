@@ -71,9 +71,9 @@ held-modules s ms h =
       modules =
           record {
             tiled = h.tiled;
-            chain = list.stands.chain;
+            chain = list.valid.chain;
             modules = subst (AllByRecursion (IsModuleAt s)) (sym list.list) (held-modules_at s ms 0 h.held.holds.1 (λ a some. h.held.inside a (omega (arith, some))) h.blocks);
-            apart = nodes-apart s module_link module_size 104 (modules_in s) list.stands;
+            apart = nodes-apart s module_link module_size 104 (modules_in s) list.valid;
           };
       list = list.list;
     }

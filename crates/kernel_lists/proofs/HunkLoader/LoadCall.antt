@@ -11,7 +11,7 @@ use Rattle.kernel_lists.specs.HunkLoader.Follow.{FitsAt}
 use Rattle.kernel_lists.specs.HunkLoader.LoadOutcome.{IsLoaded}
 use Rattle.kernel_lists.specs.HunkLoader.ModuleRow.{last_word, module_row}
 use Rattle.kernel_lists.specs.HunkLoader.Modules.{HasModules}
-use Rattle.kernel_lists.proofs.HunkLoader.LoadedModules.{Loaded, load_stands, placed}
+use Rattle.kernel_lists.proofs.HunkLoader.LoadedModules.{Loaded, modules_loaded, placed}
 use Rattle.kernel_lists.proofs.HunkLoader.TextModules.{ModuleFound, module_found}
 
 -- a block was taken for the module whose shape was found
@@ -35,7 +35,7 @@ taken_for s t0 text shape size m tiled e n h =
 pub record Done (s t text : List ℕ) (m : ℕ) : Type 0 where
   pub loaded : IsLoaded s t text m
   pub modules : modules_in t ≡ m ∷ modules_in s
-  pub stands : HasModules t
+  pub valid : HasModules t
 
 pub done : (s t0 t1 t text : List ℕ) (shape : Shape) (m link : ℕ) → HasModules s → (k : TakenFor s t0 text shape m) → link ≡ get_or t0 104 0
     → t1 ≡ with_words t0 m (module_row link m k.found.hunks.hunks) → t ≡ set t1 104 m → Done s t text m
@@ -46,9 +46,9 @@ done s t0 t1 t text shape m link h k e put last =
     let row : List ℕ = module_row (get_or s 104 0) m hunks in
     let words : t ≡ set (with_words t0 m row) 104 m
     = last ∙ ap (λ (x : List ℕ). set x 104 m) put ∙ ap (λ (x : ℕ). set (with_words t0 m (module_row x m hunks)) 104 m) (e ∙ a.below 104 (omega arith)) in
-    let l = subst (λ x. Loaded s x u m) (sym words) (load_stands s (with_words t0 m row) m hunks h (placed s t0 m hunks h.tiled k.block)) in
+    let l = subst (λ x. Loaded s x u m) (sym words) (modules_loaded s (with_words t0 m row) m hunks h (placed s t0 m hunks h.tiled k.block)) in
     record {
       loaded = record { hunks = k.found.hunks; is = k.found.is; with_block = t0; block = k.block; blocks = l.blocks; words = words };
       modules = l.modules;
-      stands = l.stands;
+      valid = l.valid;
     }

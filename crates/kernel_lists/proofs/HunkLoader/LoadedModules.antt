@@ -32,7 +32,7 @@ use Rattle.kernel_lists.specs.HunkLoader.ModuleRow.{hunks_image, last_word, leng
 use Rattle.kernel_lists.specs.HunkLoader.Modules.{HasModules, IsModuleAt}
 use Rattle.kernel_lists.specs.HunkLoader.RelocatedWords.{relocated}
 use Rattle.kernel_lists.specs.HunkLoader.ModuleHunks.{hunk_count, lengths_in}
-use Rattle.kernel_lists.proofs.HunkLoader.ModuleBlocks.{cell_at, in_block, linked, module-same, no_block, one_word, stands, times-one}
+use Rattle.kernel_lists.proofs.HunkLoader.ModuleBlocks.{cell_at, in_block, linked, module-same, no_block, one_word, times-one, valid-modules}
 use Rattle.kernel_lists.proofs.HunkLoader.PlacedHunks.{words_in-cons}
 use Rattle.kernel_lists.proofs.HunkLoader.RelocationLists.{length-relocated}
 
@@ -165,7 +165,7 @@ placed s t0 m hunks tiled h =
 
 pub record Loaded (s t : List ℕ) (u m : ℕ) : Type 0 where
   pub modules : modules_in t ≡ m ∷ modules_in s
-  pub stands : HasModules t
+  pub valid : HasModules t
   pub blocks : blocks_in t ≡ taken (need u) (blocks_in s)
 
 old_module : (s t1 : List ℕ) (m : ℕ) (hunks : List Hunk) → IsTiled s → Placed s t1 m hunks → (n : ℕ) → IsModuleAt s n → get_or t1 n 0 ≡ get_or s n 0
@@ -196,9 +196,9 @@ is_fresh s t1 m hunks h p =
         omega (arith, hit-le a m, times-one a (modules_in s), hit-other a 104 (λ e. absurd (omega (arith, p.above))))
     by a (inr differ) = omega (arith, hit-other a m differ, (linked s h).apart a)
 
-pub load_stands : (s t1 : List ℕ) (m : ℕ) (hunks : List Hunk) → HasModules s → Placed s t1 m hunks → Loaded s (set t1 104 m) (last_word hunks) m
-load_stands s t1 m hunks h p =
-    record { modules = list; stands = stands t (m ∷ modules_in s) blocks.tiled now.stands list (new, old) apart; blocks = blocks.blocks ∙ p.taken }
+pub modules_loaded : (s t1 : List ℕ) (m : ℕ) (hunks : List Hunk) → HasModules s → Placed s t1 m hunks → Loaded s (set t1 104 m) (last_word hunks) m
+modules_loaded s t1 m hunks h p =
+    record { modules = list; valid = valid-modules t (m ∷ modules_in s) blocks.tiled now.valid list (new, old) apart; blocks = blocks.blocks ∙ p.taken }
   where
     t : List ℕ
     t = set t1 104 m
@@ -215,8 +215,8 @@ load_stands s t1 m hunks h p =
         ap (λ (w : ℕ). set (set t1 m w) 104 m) same ∙ ap (λ (x : List ℕ). set x 104 m) (set-get_or t1 m 0)
 
     now : IsListAt t module_link one_word 104 (m ∷ list_at t1 module_link 104)
-    now = list-push t1 t module_link one_word 104 m kept.stands fresh
-        (subst (λ x. InsertedAt t1 x module_link one_word 104 m) words (list-pushed t1 module_link one_word 104 m kept.stands fresh))
+    now = list-push t1 t module_link one_word 104 m kept.valid fresh
+        (subst (λ x. InsertedAt t1 x module_link one_word 104 m) words (list-pushed t1 module_link one_word 104 m kept.valid fresh))
 
     list : modules_in t ≡ m ∷ modules_in s
     list = now.list ∙ ap (λ (ms : List ℕ). m ∷ ms) kept.list

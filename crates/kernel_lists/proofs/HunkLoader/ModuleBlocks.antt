@@ -137,7 +137,7 @@ no_module s (m ∷ ms) v b t h e =
     on start few s1 some (inr (inr after)) = λ same. absurd (omega arith)
 
 -- modules stand, where the list does
-pub stands : (t : List ℕ) (ms : List ℕ) → IsTiled t → HasList t module_link one_word 104 → modules_in t ≡ ms → AllByRecursion (IsModuleAt t) ms → IsApart ms → HasModules t
-stands t ms tiled l e all apart =
+pub valid-modules : (t : List ℕ) (ms : List ℕ) → IsTiled t → HasList t module_link one_word 104 → modules_in t ≡ ms → AllByRecursion (IsModuleAt t) ms → IsApart ms → HasModules t
+valid-modules t ms tiled l e all apart =
     let P : List ℕ → Type 0 = λ xs. AllByRecursion (IsModuleAt t) xs in
     record { tiled = tiled; chain = l.chain; modules = subst P (sym e) all; apart = subst IsApart (sym e) apart }

@@ -20,7 +20,7 @@ use Rattle.kernel_lists.proofs.GetvecChain.UsedBlocks.{AreDisjoint}
 use Rattle.kernel_lists.proofs.GetvecChain.Writes.{SameBlocks, SameBlocks-set_below, SameBlocks-set_used}
 use Rattle.kernel_lists.specs.TaskBlock.Lists.{module_link, modules_in}
 use Rattle.kernel_lists.specs.HunkLoader.Modules.{HasModules, IsModuleAt}
-use Rattle.kernel_lists.proofs.HunkLoader.ModuleBlocks.{InBlock, in_block, linked, module-same, modules-apart, no_module, one_word, stands, times-one}
+use Rattle.kernel_lists.proofs.HunkLoader.ModuleBlocks.{InBlock, in_block, linked, module-same, modules-apart, no_module, one_word, times-one, valid-modules}
 
 -- ---- a module is linked out, and its block given back
 
@@ -31,7 +31,7 @@ pub record LinkedOut (s : List ℕ) (m : ℕ) : Type 0 where
 
 pub record Unloaded (s t : List ℕ) (m : ℕ) : Type 0 where
   pub modules : modules_in t ≡ without m (modules_in s)
-  pub stands : HasModules t
+  pub valid : HasModules t
 
 -- the word before it is word 104, or a module's first word
 cell-where : (s : List ℕ) (m : ℕ) → (cell_before module_link m 104 (modules_in s) ≡ 104) ⊎ (has (cell_before module_link m 104 (modules_in s)) (modules_in s) ≡ true)
@@ -64,9 +64,9 @@ out_linked s m h e =
     same : SameBlocks s (linked_out s module_link cell m)
     same = by (cell-where s m)
 
-pub unload_stands : (s t : List ℕ) (m : ℕ) → HasModules s → has m (modules_in s) ≡ true → t ≡ given_store (linked_out s module_link (cell_before module_link m 104 (modules_in s)) m) m → Unloaded s t m
-unload_stands s t m h e words =
-    record { modules = list; stands = stands t rest g.tiled now.stands list all (λ a. omega (arith, times-without a m (modules_in s), h.apart a)) }
+pub modules_unloaded : (s t : List ℕ) (m : ℕ) → HasModules s → has m (modules_in s) ≡ true → t ≡ given_store (linked_out s module_link (cell_before module_link m 104 (modules_in s)) m) m → Unloaded s t m
+modules_unloaded s t m h e words =
+    record { modules = list; valid = valid-modules t rest g.tiled now.valid list all (λ a. omega (arith, times-without a m (modules_in s), h.apart a)) }
   where
     rest : List ℕ
     rest = without m (modules_in s)
@@ -111,7 +111,7 @@ unload_stands s t m h e words =
         let same : times at (list_at r module_link 104) ≡ times at rest = ap (λ (ms : List ℕ). times at ms) first.list in
         omega (
           arith,
-          times-cells r module_link one_word 104 (list_at r module_link 104) first.stands.nodes at,
+          times-cells r module_link one_word 104 (list_at r module_link 104) first.valid.nodes at,
           times-one at (list_at r module_link 104),
           times-without at m (modules_in s),
           hit-other at 104 (λ e. absurd (omega (arith, above))),
@@ -120,7 +120,7 @@ unload_stands s t m h e words =
     now : IsListAt t module_link one_word 104 rest
     now =
         let w = get_or r (m - 1) 0 + 1 in
-        let given : IsListAt (set r (m - 1) w) module_link one_word 104 (list_at r module_link 104) = list-set r module_link one_word 104 (m - 1) w first.stands no_link in
+        let given : IsListAt (set r (m - 1) w) module_link one_word 104 (list_at r module_link 104) = list-set r module_link one_word 104 (m - 1) w first.valid no_link in
         subst (λ x. IsListAt x module_link one_word 104 rest) (sym words) (subst (λ ms. IsListAt (set r (m - 1) w) module_link one_word 104 ms) first.list given)
 
     list : modules_in t ≡ rest

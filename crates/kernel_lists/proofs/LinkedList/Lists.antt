@@ -8,10 +8,10 @@ use Rattle.kernel_lists.specs.LinkedList.Changed.{InsertedAt, RemovedAt}
 use Rattle.kernel_lists.proofs.LinkedList.Chains.{linked-found, list_at-is}
 use Rattle.kernel_lists.proofs.LinkedList.Insertion.{IsLinked-insert, fresh-cell, inserted}
 use Rattle.kernel_lists.proofs.LinkedList.Removal.{IsLinked-remove, cell-before-node, node-of, removed}
-use Rattle.kernel_lists.proofs.LinkedList.Places.{IsPlace, NodePlace, place, stands}
+use Rattle.kernel_lists.proofs.LinkedList.Places.{IsPlace, NodePlace, member-place, place}
 
 pub list_at-linked : (t : List ℕ) (link size : ℕ → ℕ) (head : ℕ) (ps : List ℕ) → IsLinked t link size head ps → IsListAt t link size head ps
-list_at-linked t link size head ps l = record { stands = linked-found t link size head ps l; list = list_at-is t link size head ps l }
+list_at-linked t link size head ps l = record { valid = linked-found t link size head ps l; list = list_at-is t link size head ps l }
 
 -- a node came in behind the last one that passes a test
 pub list-insert : (s t : List ℕ) (f : ℕ → Bool) (link size : ℕ → ℕ) (head p : ℕ) → HasList s link size head → IsFresh s link size head (list_at s link head) p
@@ -66,7 +66,7 @@ list-appended s link size head p l fresh =
 pub list-remove : (s t : List ℕ) (link size : ℕ → ℕ) (head p : ℕ) → HasList s link size head → has p (list_at s link head) ≡ true
     → RemovedAt s t link size (cell_before link p head (list_at s link head)) p → IsListAt t link size head (without p (list_at s link head))
 list-remove s t link size head p l some r =
-    let h : NodePlace link head p (list_at s link head) = stands link head p (list_at s link head) some in
+    let h : NodePlace link head p (list_at s link head) = member-place link head p (list_at s link head) some in
     subst (IsListAt t link size head) (sym h.list)
     (list_at-linked t link size head (h.front ++ h.back)
     (IsLinked-remove s t link size head h.front h.back p (subst (IsLinked s link size head) h.whole l) (subst (λ c. RemovedAt s t link size c p) h.cell r)))
@@ -75,19 +75,19 @@ list-remove s t link size head p l some r =
 pub list-removed : (s : List ℕ) (link size : ℕ → ℕ) (head p : ℕ) → HasList s link size head → has p (list_at s link head) ≡ true
     → RemovedAt s (linked_out s link (cell_before link p head (list_at s link head)) p) link size (cell_before link p head (list_at s link head)) p
 list-removed s link size head p l some =
-    let h : NodePlace link head p (list_at s link head) = stands link head p (list_at s link head) some in
+    let h : NodePlace link head p (list_at s link head) = member-place link head p (list_at s link head) some in
     subst (λ c. RemovedAt s (linked_out s link c p) link size c p) (sym h.cell)
     (removed s link size head h.front h.back p (subst (IsLinked s link size head) h.whole l))
 
 -- a node of the list is a node, and the cell before it is none of its words
 pub list-node : (s : List ℕ) (link size : ℕ → ℕ) (head p : ℕ) → HasList s link size head → has p (list_at s link head) ≡ true → IsNode s link size p
 list-node s link size head p l some =
-    let h : NodePlace link head p (list_at s link head) = stands link head p (list_at s link head) some in
+    let h : NodePlace link head p (list_at s link head) = member-place link head p (list_at s link head) some in
     node-of s link size h.front h.back p (subst (IsLinked s link size head) h.whole l).nodes
 
 pub list-cell_before : (s : List ℕ) (link size : ℕ → ℕ) (head p : ℕ) → HasList s link size head → has p (list_at s link head) ≡ true
     → times (cell_before link p head (list_at s link head)) (node_words size p) ≡ 0
 list-cell_before s link size head p l some =
-    let h : NodePlace link head p (list_at s link head) = stands link head p (list_at s link head) some in
+    let h : NodePlace link head p (list_at s link head) = member-place link head p (list_at s link head) some in
     subst (λ c. times c (node_words size p) ≡ 0) (sym h.cell)
     (cell-before-node s link size head h.front h.back p (subst (IsLinked s link size head) h.whole l))

@@ -75,9 +75,9 @@ pub record NodePlace (link : ℕ → ℕ) (at p : ℕ) (ps : List ℕ) : Type 0 
   pub list : without p ps ≡ front ++ back
   pub before : has p front ≡ false
 
-pub stands : (link : ℕ → ℕ) (at p : ℕ) (ps : List ℕ) → has p ps ≡ true → NodePlace link at p ps
-stands link at p [] e = cc
-stands link at p (q ∷ qs) e = on (eqb p q) refl e (stands link (link q) p qs)
+pub member-place : (link : ℕ → ℕ) (at p : ℕ) (ps : List ℕ) → has p ps ≡ true → NodePlace link at p ps
+member-place link at p [] e = cc
+member-place link at p (q ∷ qs) e = on (eqb p q) refl e (member-place link (link q) p qs)
   where
     on : (b : Bool) → eqb p q ≡ b → (b || has p qs) ≡ true → (has p qs ≡ true → NodePlace link (link q) p qs) → NodePlace link at p (q ∷ qs)
     on true t e more =

@@ -2,12 +2,12 @@
 use Rattle.std.proofs.Common.{◌≡◌, ℕ, ◌+◌, ◌<◌, List, ◌++◌, get_or, sym, ◌∙◌, subst, arith, inl, inr, Some, Option}
 use Rattle.std.proofs.lemmas.Bool.{cases_lt}
 use Rattle.kernel_lists.specs.OwnedWords.Owned.{AreApart, AreInside, Holds, Pairs, owners, written}
-use Rattle.kernel_lists.specs.OwnedWords.Written.{IsWritten, OrderedWrites, StandsWritten, Writes}
+use Rattle.kernel_lists.specs.OwnedWords.Written.{HoldsWrites, IsWritten, OrderedWrites, Writes}
 use Rattle.kernel_lists.proofs.OwnedWords.OwnedWords.{Holds-append, Holds-same, Holds-written, length-written, owners-append, word_in-holds, written-append, written-other}
 
 -- however the store came about
-pub stands-hold : (s t : List ℕ) (before after old new plain : Pairs) → StandsWritten s t before after old new plain → IsWritten s t after plain
-stands-hold s t before after old new plain w =
+pub known-writes-hold : (s t : List ℕ) (before after old new plain : Pairs) → HoldsWrites s t before after old new plain → IsWritten s t after plain
+known-writes-hold s t before after old new plain w =
     let rest : Pairs = w.exchange.rest in
     let count : (a : ℕ) → owners a after ≡ owners a rest + owners a new = λ a. w.exchange.then'.count a in
     let unwritten : (a : ℕ) → 0 < owners a after → owners a plain ≡ 0 = λ a h.
@@ -17,7 +17,7 @@ stands-hold s t before after old new plain w =
     Holds-same s t rest (w.exchange.first.opens s w.holds).0
     (λ a h. w.others a (omega (arith, h, count a, w.apart a)) ∙ written-other a plain s (unwritten a (omega (arith, h, count a))))
     in
-    record { holds = w.exchange.then'.closes t of_rest w.stands; others = λ a none. w.others a (omega (arith, none, count a)) }
+    record { holds = w.exchange.then'.closes t of_rest w.there; others = λ a none. w.others a (omega (arith, none, count a)) }
 
 -- what is owned afterwards besides the rest, and that no plain word is among it
 record AfterWrites (s : List ℕ) (after new kept plain rest : Pairs) : Type 0 where
@@ -40,15 +40,15 @@ writes-hold s before after old new kept plain w =
     let apart : AreApart new = λ a. omega (arith, w.apart a, c.count a) in
     let inside : AreInside p new = λ a h. omega (arith, length-written plain s, w.inside a (omega (arith, h, c.count a))) in
     let of_kept : Holds t kept =
-    Holds-same s t kept w.stands
+    Holds-same s t kept w.there
     (λ a h. written-other a new p (omega (arith, h, c.count a, w.apart a)) ∙ written-other a plain s (c.unwritten a (omega (arith, h, c.count a))))
     in
     subst (λ z. IsWritten s z after plain) (sym (written-append new plain s))
-    (stands-hold s t before after old (new ++ kept) plain
+    (known-writes-hold s t before after old (new ++ kept) plain
     (record {
       holds = w.holds;
       exchange = w.exchange;
-      stands = Holds-append t new kept (Holds-written new p apart inside) of_kept;
+      there = Holds-append t new kept (Holds-written new p apart inside) of_kept;
       others = λ a none. written-other a new p (omega (arith, none, owners-append a new kept));
       apart = w.apart;
       unowned = w.unowned;
@@ -74,14 +74,14 @@ ordered-hold s before after old new kept plain all o =
     ]
     in
     let both : Holds t plain × Holds t new = o.order.opens t (Holds-written all s apart inside) in
-    let of_kept : Holds t kept = Holds-same s t kept w.stands
+    let of_kept : Holds t kept = Holds-same s t kept w.there
     (λ a h. written-other a all s (omega (arith, total a, c.unwritten a (omega (arith, h, c.count a)), h, c.count a, w.apart a)))
     in
-    stands-hold s t before after old (new ++ kept) plain
+    known-writes-hold s t before after old (new ++ kept) plain
     (record {
       holds = w.holds;
       exchange = w.exchange;
-      stands = Holds-append t new kept both.1 of_kept;
+      there = Holds-append t new kept both.1 of_kept;
       others = λ a none.
           elim (cases_lt 0 (owners a plain)) [
             | inl some ↦ same (get_or t a 0) (get_or (written plain s) a 0)

@@ -141,7 +141,7 @@ appended-words s head ps p c =
     (record {
       holds = c.holds;
       exchange = x.exchange;
-      stands = c.packet;
+      there = c.packet;
       apart = c.apart;
       inside = c.inside;
       unowned = λ a some. absurd (omega (arith, some));

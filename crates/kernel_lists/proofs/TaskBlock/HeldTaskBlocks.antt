@@ -97,7 +97,7 @@ module _ {X : Type 0} (address id : X → ℕ) (words : X → ℕ → Pairs) (ki
         tasks =
             record {
               root = h.root;
-              chain = list.stands;
+              chain = list.valid;
               apart = λ a.
                   omega (
                     arith,

@@ -70,7 +70,7 @@ module _ (s : List ℕ) (a w : ℕ) where
         tasks =
             record {
               root = omega (arith, length-set s a w, h.root);
-              chain = done.stands;
+              chain = done.valid;
               apart = subst (λ z. IsApart (root_words ++ words_of task_size z)) (sym done.list) h.apart;
               highest = omega (arith, top, h.highest);
               listed = subst (AllByRecursion (IsInTable stored)) (sym done.list) (in-table (tasks_in s) root h.highest h.listed ids);

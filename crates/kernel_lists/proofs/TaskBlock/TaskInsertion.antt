@@ -160,7 +160,7 @@ task-in s t h n =
     let no_cell : times (120 + id_in s t) (cells task_link 101 (list_at u task_link 101)) ≡ 0 =
     omega (
       arith,
-      times-cells u task_link task_size 101 (list_at u task_link 101) linked.stands.nodes (120 + id_in s t),
+      times-cells u task_link task_size 101 (list_at u task_link 101) linked.valid.nodes (120 + id_in s t),
       ap (λ z. times (120 + id_in s t) (words_of task_size z)) u_list,
       apart (120 + id_in s t),
       times-append (120 + id_in s t) root_words (words_of task_size (r.front ++ t ∷ r.back)),
@@ -168,7 +168,7 @@ task-in s t h n =
       hit-other (120 + id_in s t) 101 (λ k. absurd (omega (arith, k))),
     )
     in
-    let done : IsListAt v task_link task_size 101 (list_at u task_link 101) = list-set u task_link task_size 101 (120 + id_in s t) t linked.stands no_cell in
+    let done : IsListAt v task_link task_size 101 (list_at u task_link 101) = list-set u task_link task_size 101 (120 + id_in s t) t linked.valid no_cell in
     let v_list : tasks_in v ≡ r.front ++ t ∷ r.back = done.list ∙ u_list in
     let top : highest_id v ≡ highest_id s = root-stays s t 120 h n (omega arith) (omega arith) (λ k. absurd (omega (arith, k))) (λ k. absurd (omega (arith, k, n.low))) in
     let ids : AllByRecursion (λ u. id_in v u ≡ id_in s u) (r.front ++ r.back) = subst (AllByRecursion (λ u. id_in v u ≡ id_in s u)) r.whole (all-stay s t 1 h n (omega arith) (omega arith)) in
@@ -196,7 +196,7 @@ task-in s t h n =
       tasks =
           record {
             root = omega (arith, length-with_task s t, h.root);
-            chain = done.stands;
+            chain = done.valid;
             apart = subst (λ z. IsApart (root_words ++ words_of task_size z)) (sym v_list) apart;
             highest = omega (arith, top, h.highest);
             listed = subst (AllByRecursion (IsInTable v)) (sym v_list)

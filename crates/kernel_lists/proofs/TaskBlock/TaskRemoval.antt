@@ -13,7 +13,7 @@ use Rattle.kernel_lists.proofs.LinkedList.Frames.{list-set, word-no_cell}
 use Rattle.kernel_lists.proofs.LinkedList.Insertion.{times-front_cell}
 use Rattle.word_store.proofs.Elements.{all-append, all-back, all-front}
 use Rattle.kernel_lists.proofs.LinkedList.Lists.{list-node, list-remove, list-removed}
-use Rattle.kernel_lists.proofs.LinkedList.Places.{NodePlace, stands}
+use Rattle.kernel_lists.proofs.LinkedList.Places.{NodePlace, member-place}
 use Rattle.kernel_lists.specs.TaskBlock.Moves.{without_task}
 use Rattle.kernel_lists.specs.TaskBlock.Versions.{highest_id}
 use Rattle.kernel_lists.specs.TaskBlock.TaskChain.{Fall, HasTasks, IsInTable, IsNewTask, id_in, root_words, task_link, task_size, task_with, tasks_in}
@@ -78,7 +78,7 @@ pub record TaskOut (s v : List ℕ) (t : ℕ) : Type 0 where
 pub task-out : (s : List ℕ) (t : ℕ) → HasTasks s → has t (tasks_in s) ≡ true → TaskOut s (without_task s t) t
 task-out s t h some =
     let v : List ℕ = without_task s t in
-    let r : NodePlace task_link 101 t (tasks_in s) = stands task_link 101 t (tasks_in s) some in
+    let r : NodePlace task_link 101 t (tasks_in s) = member-place task_link 101 t (tasks_in s) some in
     let u : List ℕ = linked_out s task_link (link_before s t) t in
     let linked : IsListAt u task_link task_size 101 (without t (tasks_in s)) =
     list-remove s u task_link task_size 101 t h.chain some (list-removed s task_link task_size 101 t h.chain some)
@@ -94,7 +94,7 @@ task-out s t h some =
     let no_cell : times (120 + id_in s t) (cells task_link 101 (list_at u task_link 101)) ≡ 0 =
     omega (
       arith,
-      times-cells u task_link task_size 101 (list_at u task_link 101) linked.stands.nodes (120 + id_in s t),
+      times-cells u task_link task_size 101 (list_at u task_link 101) linked.valid.nodes (120 + id_in s t),
       ap (λ z. times (120 + id_in s t) (words_of task_size z)) u_list,
       apart (120 + id_in s t),
       times-append (120 + id_in s t) root_words (words_of task_size (r.front ++ r.back)),
@@ -102,7 +102,7 @@ task-out s t h some =
       hit-other (120 + id_in s t) 101 (λ k. absurd (omega (arith, k))),
     )
     in
-    let done : IsListAt v task_link task_size 101 (list_at u task_link 101) = list-set u task_link task_size 101 (120 + id_in s t) 0 linked.stands no_cell in
+    let done : IsListAt v task_link task_size 101 (list_at u task_link 101) = list-set u task_link task_size 101 (120 + id_in s t) 0 linked.valid no_cell in
     let v_list : tasks_in v ≡ r.front ++ r.back = done.list ∙ u_list in
     let root_stays : (a : ℕ) → 100 ≤ a → a < 184 → a ≢ 101 → a ≢ 120 + id_in s t → get_or v a 0 ≡ get_or s a 0 = λ a low high ne no_entry. stays s t a r (root-no_cell s h a low high ne) no_entry in
     let top : highest_id v ≡ highest_id s = root_stays 120 (omega arith) (omega arith) (λ k. absurd (omega (arith, k))) (λ k. absurd (omega (arith, k, mine.table.low))) in
@@ -151,7 +151,7 @@ task-out s t h some =
       tasks =
           record {
             root = omega (arith, length-without_task s t, h.root);
-            chain = done.stands;
+            chain = done.valid;
             apart = subst (λ z. IsApart (root_words ++ words_of task_size z)) (sym v_list) apart;
             highest = omega (arith, top, h.highest);
             listed = subst (AllByRecursion (IsInTable v)) (sym v_list) (in-table s t h (r.front ++ r.back) rest others ids top root_stays);

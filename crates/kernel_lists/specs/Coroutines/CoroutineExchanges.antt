@@ -46,14 +46,14 @@ pub record HoldsCoroutines (s : List ℕ) (t : ℕ) (k : TaskCoroutines) : Type 
 -- ---- words that are written over
 
 -- what is at the addresses of these pairs
-abbrev pub standing : List ℕ → Pairs → Pairs
-standing s [] = []
-standing s (e ∷ es) = (e.0, slice_index s e.0) ∷ standing s es
+abbrev pub pairs_in : List ℕ → Pairs → Pairs
+pairs_in s [] = []
+pairs_in s (e ∷ es) = (e.0, slice_index s e.0) ∷ pairs_in s es
 
 -- the words that are there are exchanged for these new ones, which are written
 pub record Rewrites (s v : List ℕ) (before after new : Pairs) : Type 0 where
   -- these words come in the place of those at their addresses
-  pub exchange : Exchange before after (standing s new) new
+  pub exchange : Exchange before after (pairs_in s new) new
   -- they alone are written
   pub writes : v ≡ written new s
 

@@ -4,7 +4,7 @@ use Rattle.kernel_lists.specs.declared.getvec_chain.pieces.Block.{Block}
 use Rattle.kernel_lists.specs.GetvecChain.Block.{block_end, block_of_word, has_data, is_used_at, size_word}
 
 -- the block has its size word in the store, and its size is even and 2 or more
-pub record StandsIn (s : List ℕ) (b : Block) : Type 0 where
+pub record IsBlockIn (s : List ℕ) (b : Block) : Type 0 where
   -- its first word has its size, and whether it is free
   pub word : slice_index s b.start ≡ size_word b
   -- it has at least two words
@@ -15,7 +15,7 @@ pub record StandsIn (s : List ℕ) (b : Block) : Type 0 where
 -- from the address on the blocks follow one another without a gap up to the end word, which is 0 and the store's last word but one
 abbrev pub Tiles : List ℕ → ℕ → List Block → Type 0
 Tiles s at [] = (at + 2 ≡ length s) × (slice_index s at ≡ 0)
-Tiles s at (b ∷ bs) = (b.start ≡ at) × StandsIn s b × Tiles s (block_end b) bs
+Tiles s at (b ∷ bs) = (b.start ≡ at) × IsBlockIn s b × Tiles s (block_end b) bs
 
 -- from at to end the blocks follow one another, with even sizes of 2 or more
 abbrev pub Follow : ℕ → List Block → ℕ → Type 0

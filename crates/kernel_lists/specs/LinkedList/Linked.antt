@@ -33,7 +33,7 @@ HasList s link size head = IsLinked s link size head (list_at s link head)
 -- the linked list at the head is this one
 pub record IsListAt (s : List ℕ) (link size : ℕ → ℕ) (head : ℕ) (ps : List ℕ) : Type 0 where
   -- there is a list at the head
-  pub stands : HasList s link size head
+  pub valid : HasList s link size head
   -- it is this one
   pub list : list_at s link head ≡ ps
 

@@ -11,7 +11,7 @@ pub record Writes (s : List ℕ) (before after old new kept plain : Pairs) : Typ
   -- the old pairs go, and the new ones come with those that are kept
   pub exchange : Exchange before after old (new ++ kept)
   -- the store has those that are kept already
-  pub stands : Holds s kept
+  pub there : Holds s kept
   -- no address is owned twice after
   pub apart : AreApart after
   -- what is owned after lies in the store
@@ -41,13 +41,13 @@ pub record OrderedWrites (s : List ℕ) (before after old new kept plain all : P
 
 -- The same of any store t, however it came about, also where a word was written twice: the new words are in it, and each
 -- other word is as it was, or as it was written besides.
-pub record StandsWritten (s t : List ℕ) (before after old new plain : Pairs) : Type 0 where
+pub record HoldsWrites (s t : List ℕ) (before after old new plain : Pairs) : Type 0 where
   -- the store holds what is owned before
   pub holds : Holds s before
   -- the old pairs go, and the new ones come
   pub exchange : Exchange before after old new
   -- then the store has the new ones
-  pub stands : Holds t new
+  pub there : Holds t new
   -- every other word is as it was, or as the plain words say
   pub others : (a : ℕ) → owners a new ≡ 0 → slice_index t a ≡ slice_index (written plain s) a
   -- no address is owned twice after

@@ -27,7 +27,7 @@ pub fn call(store: &mut Store, t: u32, regs: &mut Regs, c: u32, v: u32) -> Resul
     ensures regs { OnOk result (regs.new ≡ entered store.old t regs.old c v) }
     ensures active { OnOk result (active_in store.new t ≡ c ∷ active_in store.old t) }
     ensures coroutines { coroutines_in store.new t ≡ coroutines_in store.old t }
-    ensures stand { HasCoroutines store.new t }
+    ensures valid { HasCoroutines store.new t }
     ensures unchanged { OnErr result ((store.new ≡ store.old) × (regs.new ≡ regs.old)) }
 {
     check_idle(store, t, c)?;
@@ -44,7 +44,7 @@ pub fn resume(store: &mut Store, t: u32, regs: &mut Regs, c: u32, v: u32) -> Res
     ensures regs { OnOk result (regs.new ≡ resumed_regs store.old t regs.old c v) }
     ensures active { OnOk result (active_in store.new t ≡ c ∷ drop 1 (active_in store.old t)) }
     ensures coroutines { coroutines_in store.new t ≡ coroutines_in store.old t }
-    ensures stand { HasCoroutines store.new t }
+    ensures valid { HasCoroutines store.new t }
     ensures unchanged { OnErr result ((store.new ≡ store.old) × (regs.new ≡ regs.old)) }
 {
     if !is_known(store, t, c) {
@@ -75,7 +75,7 @@ pub fn wait(store: &mut Store, t: u32, regs: &mut Regs, v: u32) -> Result<(), Co
         (regs.new ≡ entered store.old t regs.old (current_parent store.old t) v) }
     ensures active { OnOk result (active_in store.new t ≡ drop 1 (active_in store.old t)) }
     ensures coroutines { coroutines_in store.new t ≡ coroutines_in store.old t }
-    ensures stand { HasCoroutines store.new t }
+    ensures valid { HasCoroutines store.new t }
     ensures unchanged { OnErr result ((store.new ≡ store.old) × (regs.new ≡ regs.old)) }
 {
     if field(store, t, TcbField::CurrentCo) == 0 {
@@ -94,7 +94,7 @@ pub fn ended(store: &mut Store, t: u32, regs: &mut Regs)
     ensures regs { regs.new ≡ entered store.old t regs.old (current_parent store.old t) regs.old.a }
     ensures active { active_in store.new t ≡ drop 1 (active_in store.old t) }
     ensures coroutines { coroutines_in store.new t ≡ coroutines_in store.old t }
-    ensures stand { HasCoroutines store.new t }
+    ensures valid { HasCoroutines store.new t }
 {
     let current = field(store, t, TcbField::CurrentCo);
     regs.p = store.address_of(current, BOTTOM);

@@ -36,7 +36,7 @@ pub fn create(store: &mut Store, t: u32, entry: u32, u: u32) -> Result<u32, NoRo
     ensures coroutines { IfOk result
         (λ c. coroutines_in store.new t ≡ c ∷ coroutines_in store.old t) }
     ensures active { active_in store.new t ≡ active_in store.old t }
-    ensures stand { HasCoroutines store.new t }
+    ensures valid { HasCoroutines store.new t }
     ensures no_room { OnErr result (first_run (need (highest u)) (blocks_in store.old) ≡ None) }
     ensures unchanged { OnErr result (store.new ≡ store.old) }
 {
@@ -62,7 +62,7 @@ pub fn delete(store: &mut Store, t: u32, c: u32) -> Result<(), CoEnd>
     ensures coroutines { OnOk result
         (coroutines_in store.new t ≡ without c (coroutines_in store.old t)) }
     ensures active { active_in store.new t ≡ active_in store.old t }
-    ensures stand { HasCoroutines store.new t }
+    ensures valid { HasCoroutines store.new t }
     ensures unchanged { OnErr result (store.new ≡ store.old) }
 {
     check_idle(store, t, c)?;

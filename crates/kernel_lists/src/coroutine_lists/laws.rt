@@ -14,7 +14,7 @@ ghost use Rattle.kernel_lists.specs.TaskBlock.Lists.{coroutines_in};
 /// Where a tiled store holds the words of coroutines, each alone in its block, with the head in the task that leads to them,
 /// these are the task's coroutines, and those are active whose parents are given.
 pub fn held_coroutines_law()
-    ensures stand { (s : List ℕ) (t : ℕ) (cs : List Coroutine) (act : List ℕ)
+    ensures valid { (s : List ℕ) (t : ℕ) (cs : List Coroutine) (act : List ℕ)
         → HeldCoroutines s t cs act
         → HasCoroutines s t }
     ensures coroutines { (s : List ℕ) (t : ℕ) (cs : List Coroutine) (act : List ℕ)

@@ -2,7 +2,7 @@
 ghost use Rattle.std.specs.Prelude.{◌≡◌, ◌++◌, ℕ, List};
 ghost use Rattle.word_store.specs.Row.{with_words};
 ghost use Rattle.kernel_lists.specs.OwnedWords.Owned.{Pairs, row_from, written};
-ghost use Rattle.kernel_lists.specs.OwnedWords.Written.{IsWritten, OrderedWrites, StandsWritten, Writes};
+ghost use Rattle.kernel_lists.specs.OwnedWords.Written.{HoldsWrites, IsWritten, OrderedWrites, Writes};
 
 /// Where the owned words of a store are exchanged and the new ones written, the store holds what is owned afterwards, and
 /// every word that nobody owns then is as it was, or as it was written besides.
@@ -20,9 +20,9 @@ pub fn ordered_law()
 {}
 
 /// The same of a store of which only the words are known.
-pub fn standing_law()
+pub fn known_store_law()
     ensures { (s t : List ℕ) (before after old new plain : Pairs)
-        → StandsWritten s t before after old new plain → IsWritten s t after plain }
+        → HoldsWrites s t before after old new plain → IsWritten s t after plain }
 {}
 
 /// Words that are written one after another are written as the pairs of their row.

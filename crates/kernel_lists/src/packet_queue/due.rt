@@ -17,7 +17,7 @@ pub fn append_due(store: &mut Store, head: u32, p: u32, due: u32)
     requires packet { CanQueue store.old head p }
     ensures queue { queue_at store.new head
         ≡ insert_after (is_due store.old due) p (queue_at store.old head) }
-    ensures stands { HasQueue store.new head }
+    ensures valid { HasQueue store.new head }
     ensures words { store.new ≡ with_due store.old head p due }
 {
     let cell = last_due_link(store, head, due);

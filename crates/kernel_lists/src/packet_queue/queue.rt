@@ -17,7 +17,7 @@ pub fn append(store: &mut Store, head: u32, p: u32)
     requires queue { HasQueue store.old head }
     requires packet { CanQueue store.old head p }
     ensures queue { queue_at store.new head ≡ queue_at store.old head ++ p ∷ [] }
-    ensures stands { HasQueue store.new head }
+    ensures valid { HasQueue store.new head }
     ensures words { store.new ≡ appended store.old head p }
 {
     let cell = last_link(store, head);
@@ -29,7 +29,7 @@ pub fn append(store: &mut Store, head: u32, p: u32)
 pub fn take(store: &mut Store, head: u32) -> Option<u32>
     requires { HasQueue store.old head }
     ensures first { IfSome result (λ p. queue_at store.old head ≡ p ∷ queue_at store.new head) }
-    ensures stands { HasQueue store.new head }
+    ensures valid { HasQueue store.new head }
     ensures words { IfSome result (λ p. store.new ≡ unlinked store.old head p) }
     ensures empty { IsNone result ↔ (queue_at store.old head ≡ []) }
     ensures unchanged { IfNone result (store.new ≡ store.old) }
@@ -47,7 +47,7 @@ pub fn remove(store: &mut Store, head: u32, p: u32) -> bool
     requires { HasQueue store.old head }
     ensures found { result ≡ has p (queue_at store.old head) }
     ensures queue { queue_at store.new head ≡ without p (queue_at store.old head) }
-    ensures stands { HasQueue store.new head }
+    ensures valid { HasQueue store.new head }
     ensures words { OnTrue result (store.new ≡ unlinked store.old head p) }
     ensures unchanged { OnFalse result (store.new ≡ store.old) }
 {

@@ -10,7 +10,7 @@ use Rattle.kernel_lists.specs.OwnedWords.Owned.{owners}
 use Rattle.kernel_lists.specs.PacketQueue.QueueWords.{QueuedPacket}
 use Rattle.kernel_lists.specs.Coroutines.CoroutineExchanges.{TaskCoroutines, current_of, with_called, with_resumed, with_waiting}
 use Rattle.kernel_lists.specs.Coroutines.Creation.{highest}
-use Rattle.kernel_model.specs.KernelRecord.Between.{FaultsStand, Tells, is_unreported}
+use Rattle.kernel_model.specs.KernelRecord.Between.{AreValidFaults, Tells, is_unreported}
 use Rattle.kernel_model.specs.KernelRecord.Changes.{queue_of, with_queue, with_task, work_of}
 use Rattle.kernel_model.specs.KernelRecord.Lists.{Lists, has_task}
 use Rattle.kernel_model.specs.KernelRecord.Owned.{owned}
@@ -77,7 +77,7 @@ beside-keeps l m ts free key pending = record { faults = faults; key = key; pend
     faults : HasRule l → HasRule m
     faults h = λ there.
         let before : has_task 2 l.tasks ≡ true = ap (has_task 2) (sym ts) ∙ there in
-        let x : FaultsStand l = h before in
+        let x : AreValidFaults l = h before in
         record {
           waits = λ _. free ∙ x.waits before ∙ ap (λ us. not (list_any is_unreported us)) (sym ts);
           sender = subst (λ us. AllByRecursion (Tells us) (work_of 2 us)) (sym ts) x.sender;

@@ -12,11 +12,11 @@ use Rattle.kernel_model.specs.KernelRecord.Residents.{fault_packet, key_packet}
 use Rattle.kernel_model.specs.KernelRecord.Running.{RunsAlone}
 use Rattle.kernel_model.specs.KernelRecord.Task.{Task}
 use Rattle.kernel_model.specs.KernelRecord.ValidLists.{AreValid}
-use Rattle.kernel_model.specs.KernelRecord.ValidQueues.{MayStand, Place, is_key_packet}
+use Rattle.kernel_model.specs.KernelRecord.ValidQueues.{IsValidPacket, Place, is_key_packet}
 use Rattle.kernel_model.specs.KernelRecord.ValidQueues.Place.{Keyboard, Pending, Work}
 use Rattle.kernel_model.specs.KernelRecord.ValidTasks.{runs}
 use Rattle.kernel_model.proofs.KernelRecord.EachMember.{all-each}
-use Rattle.kernel_model.proofs.KernelRecord.QueuePlaces.{place-stands}
+use Rattle.kernel_model.proofs.KernelRecord.QueuePlaces.{valid-at-place}
 use Rattle.kernel_calls.specs.CallAnswers.Guests.{guest_tests}
 use Rattle.kernel_calls.specs.CallAnswers.Made.{by_refusal, done}
 use Rattle.kernel_calls.specs.CallAnswers.Refusals.{first_refusal}
@@ -264,13 +264,13 @@ module _ (nums : Numbers) where
 
 -- in valid lists the fault packet is on the queue of the reporter of faults alone
 pub none-fault : (l : Lists) (at : Place) → AreValid l → HasPlace l at → (at ≡ Work 2 → ⊥) → has_task 2 l.tasks ≡ true → AllByRecursion (λ p. eqb p.address fault_packet ≡ false) (queue_of at l)
-none-fault l at v place other there = all-each (MayStand l at) (λ p. eqb p.address fault_packet ≡ false) each (queue_of at l) (place-stands l at v place)
+none-fault l at v place other there = all-each (IsValidPacket l at) (λ p. eqb p.address fault_packet ≡ false) each (queue_of at l) (valid-at-place l at v place)
   where
-    each : (p : QueuedPacket) → MayStand l at p → eqb p.address fault_packet ≡ false
-    each p stands = on (eqb p.address fault_packet) refl
+    each : (p : QueuedPacket) → IsValidPacket l at p → eqb p.address fault_packet ≡ false
+    each p valid-packet = on (eqb p.address fault_packet) refl
       where
         on : (b : Bool) → eqb p.address fault_packet ≡ b → b ≡ false
-        on true e = absurd (other (stands.fault (λ i. there i && e i)).place)
+        on true e = absurd (other (valid-packet.fault (λ i. there i && e i)).place)
         on false e = refl
 
 pub console-kept : (id : ℕ) (s : List ℕ) (l : Lists) (c : Console) (k : List ℕ) → AreValid l → l.residents ≡ true → has_task 3 l.tasks ≡ true → l.running ≡ 3 → RunsAlone l → HasRule l

@@ -7,7 +7,7 @@ use Rattle.std.proofs.lemmas.List.Folds.{list_any-append}
 use Rattle.kernel_lists.specs.LinkedList.Places.{insert_after, without_first}
 use Rattle.word_store.proofs.Elements.{all-append, find-passes}
 use Rattle.kernel_lists.specs.PacketQueue.QueueWords.{QueuedPacket}
-use Rattle.kernel_model.specs.KernelRecord.Between.{FaultsStand, Tells, has_unreported, is_unreported}
+use Rattle.kernel_model.specs.KernelRecord.Between.{AreValidFaults, Tells, has_unreported, is_unreported}
 use Rattle.kernel_model.specs.KernelRecord.Changes.{change_of, queue_of, with_new_task, with_queue, with_task, with_work, work_of}
 use Rattle.kernel_model.specs.KernelRecord.Lists.{Lists, has_task}
 use Rattle.kernel_model.specs.KernelRecord.MovedTask.{with_priority}
@@ -27,7 +27,7 @@ use Rattle.shell.proofs.ShellPrograms.KeptFaults.{none-from, some-own}
 
 -- it is asked where a task reports faults
 abbrev pub HasRule : Lists → Type 0
-HasRule l = has_task 2 l.tasks ≡ true → FaultsStand l
+HasRule l = has_task 2 l.tasks ≡ true → AreValidFaults l
 
 -- a task that is not there has no packets
 pub no-work : (id : ℕ) (ts : List Task) → has_task id ts ≡ false → work_of id ts ≡ []
@@ -38,13 +38,13 @@ no-work id (t ∷ ts) none = on (eqb t.id id) none (no-work id ts)
     on true e more = cc
     on false e more = more e
 
-pub rule-of : (l : Lists) → FaultsStand l → HasRule l
+pub rule-of : (l : Lists) → AreValidFaults l → HasRule l
 rule-of l h = λ there. h
 
-pub rule-stands : (l : Lists) → HasRule l → FaultsStand l
-rule-stands l h = on (has_task 2 l.tasks) refl
+pub rule-valid : (l : Lists) → HasRule l → AreValidFaults l
+rule-valid l h = on (has_task 2 l.tasks) refl
   where
-    on : (b : Bool) → has_task 2 l.tasks ≡ b → FaultsStand l
+    on : (b : Bool) → has_task 2 l.tasks ≡ b → AreValidFaults l
     on true there = h there
     on false absent = record { waits = λ there. absurd (false≢true (sym absent ∙ there)); sender = subst (AllByRecursion (Tells l.tasks)) (sym (no-work 2 l.tasks absent)) tt }
 
@@ -75,14 +75,14 @@ one-rule l n f same h = λ there. map-faults l (change_of n f) keeps queues (h (
 
 -- ---- queues
 
-pub queue-rule : (l : Lists) (at : Place) (ps : List QueuedPacket) → (has_task 2 l.tasks ≡ true → FaultsStand l → at ≡ Work 2 → AllByRecursion (Tells l.tasks) ps) → HasRule l → HasRule (with_queue at ps l)
+pub queue-rule : (l : Lists) (at : Place) (ps : List QueuedPacket) → (has_task 2 l.tasks ≡ true → AreValidFaults l → at ≡ Work 2 → AllByRecursion (Tells l.tasks) ps) → HasRule l → HasRule (with_queue at ps l)
 queue-rule l (Work i) ps new h = λ there.
     let before : has_task 2 l.tasks ≡ true = sym (there-same (with_work i ps) (work-keeps i ps) 2 l.tasks) ∙ there in
     queue-faults l i ps (λ e. new before (h before) (ap Work e)) (h before)
-queue-rule l Clock ps new h = λ there. let x : FaultsStand l = h there in record { waits = x.waits; sender = x.sender }
-queue-rule l Keyboard ps new h = λ there. let x : FaultsStand l = h there in record { waits = x.waits; sender = x.sender }
-queue-rule l Output ps new h = λ there. let x : FaultsStand l = h there in record { waits = x.waits; sender = x.sender }
-queue-rule l Pending ps new h = λ there. let x : FaultsStand l = h there in record { waits = x.waits; sender = x.sender }
+queue-rule l Clock ps new h = λ there. let x : AreValidFaults l = h there in record { waits = x.waits; sender = x.sender }
+queue-rule l Keyboard ps new h = λ there. let x : AreValidFaults l = h there in record { waits = x.waits; sender = x.sender }
+queue-rule l Output ps new h = λ there. let x : AreValidFaults l = h there in record { waits = x.waits; sender = x.sender }
+queue-rule l Pending ps new h = λ there. let x : AreValidFaults l = h there in record { waits = x.waits; sender = x.sender }
 
 -- another packet comes
 pub arrived-rule : (l : Lists) (at : Place) (p : QueuedPacket) → (has_task 2 l.tasks ≡ true → eqb p.address fault_packet ≡ false) → HasRule l → HasRule (with_arrived at p l)
@@ -123,7 +123,7 @@ fewer-work P n f same fewer (t ∷ ts) all = on (eqb t.id n) (eqb t.id 2) refl a
 pub fewer-rule : (l : Lists) (n : ℕ) (f : Task → Task) → ((t : Task) → (f t).id ≡ t.id) → ((t : Task) → (f t).fault ≡ t.fault) → ((t : Task) → AreFewer (f t).queue t.queue) → HasRule l → HasRule (with_task n f l)
 fewer-rule l n f id fault fewer h = λ there.
     let before : has_task 2 l.tasks ≡ true = sym (there-same (change_of n f) keeps 2 l.tasks) ∙ there in
-    let x : FaultsStand l = h before in
+    let x : AreValidFaults l = h before in
     record {
       waits = λ _. x.waits before ∙ ap not (sym (any-new (change_of n f) keeps l.tasks));
       sender =
@@ -207,7 +207,7 @@ IsNew id t = eqb t.id id && is_guest_id id && is_unreported t
 -- a task comes that has no fault
 pub new-rule : (l : Lists) (t : Task) → is_unreported t ≡ false → eqb t.id 2 ≡ false → HasRule l → HasRule (with_new_task t l)
 new-rule l t none other h = λ there.
-    let x : FaultsStand l = h (sym (any-in (λ u. eqb u.id 2) _ t l.tasks ∙ ap (λ b. b || has_task 2 l.tasks) other) ∙ there) in
+    let x : AreValidFaults l = h (sym (any-in (λ u. eqb u.id 2) _ t l.tasks ∙ ap (λ b. b || has_task 2 l.tasks) other) ∙ there) in
     record {
       waits = λ _.
           x.waits (sym (any-in (λ u. eqb u.id 2) _ t l.tasks ∙ ap (λ b. b || has_task 2 l.tasks) other) ∙ there)
@@ -233,7 +233,7 @@ moved-rule l pri n guest (Some t) is h = λ there.
     let m : Lists = moved pri (Some t) (without_first f l.tasks) l in
     let other : eqb u.id 2 ≡ false = not-reporter n guest t (find-passes f l.tasks t is) in
     let before : has_task 2 l.tasks ≡ true = sym (any-moved (λ v. eqb v.id 2) f _ t u l.tasks is refl) ∙ there in
-    let x : FaultsStand l = h before in
+    let x : AreValidFaults l = h before in
     record {
       waits = λ _. x.waits before ∙ ap not (sym (any-moved is_unreported f _ t u l.tasks is refl));
       sender =
@@ -249,7 +249,7 @@ new-stays n id other t e =
     let apart : eqb t.id id ≡ false = ne_eqb t.id id (λ same. absurd (false≢true (sym other ∙ eq-eqb id n (sym same ∙ eqb-true t.id n e)))) in
     ap (λ b. b && is_guest_id id && is_unreported t) apart
 
-module _ (l : Lists) (n : ℕ) (v : AreValid l) (guest : is_guest_id n ≡ true) (out : has_packet_out l n ≡ false) (x : FaultsStand l) (there : has_task 2 l.tasks ≡ true) where
+module _ (l : Lists) (n : ℕ) (v : AreValid l) (guest : is_guest_id n ≡ true) (out : has_packet_out l n ≡ false) (x : AreValidFaults l) (there : has_task 2 l.tasks ≡ true) where
   abbrev f : Task → Bool
   f = λ t. eqb t.id n
 
@@ -296,7 +296,7 @@ module _ (l : Lists) (n : ℕ) (v : AreValid l) (guest : is_guest_id n ≡ true)
       some true e = sym e
       some false e = absurd (false≢true (sym busy ∙ free-is l there false v e))
 
-  gone-hold : FaultsStand m
+  gone-hold : AreValidFaults m
   gone-hold = record {
     waits = λ _. waits-still l.fault_packet_free refl;
     sender = subst (AllByRecursion (Tells m.tasks)) (sym (work-out 2 f (not-reporter n guest) l.tasks)) told;

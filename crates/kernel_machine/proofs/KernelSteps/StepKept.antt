@@ -3,7 +3,7 @@ use Rattle.std.proofs.Common.{◌≡◌, ◌/◌, ◌%◌, ◌<◌, ◌≤◌, B
 use Rattle.std.specs.List.{AllByRecursion}
 use Rattle.kernel_model.specs.KernelRecord.Ranges.{most_steps}
 use Rattle.ram_disc.specs.Disc.{IsDisc}
-use Rattle.kernel_model.specs.KernelRecord.Between.{FirstRuns, ResidentsStand}
+use Rattle.kernel_model.specs.KernelRecord.Between.{AreValidResidents, FirstRuns}
 use Rattle.kernel_model.specs.KernelRecord.Image.{HasPlainWords, image, settled}
 use Rattle.kernel_model.specs.KernelRecord.Kernel.{Kernel}
 use Rattle.kernel_model.specs.KernelRecord.ValidKernel.{IsValid}
@@ -34,7 +34,7 @@ pub record IsAmid (k j : Kernel) : Type 0 where
   pub system : IsSameSystem k.lists j.lists
   pub period : j.lists.period ≡ k.lists.period
   pub keys : AllByRecursion (λ key. key.0 ≤ most_steps) j.keys
-  pub rules : ResidentsStand j
+  pub rules : AreValidResidents j
   pub can : CanDispatch j.lists j.regs
 
 -- what a dispatch leaves

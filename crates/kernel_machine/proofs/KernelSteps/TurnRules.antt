@@ -4,19 +4,19 @@ use Rattle.std.proofs.lemmas.Bool.{and_parts, eqb-true, false≢true}
 use Rattle.word_store.specs.declared.registers.Regs.{Regs}
 use Rattle.instruction_set.specs.declared.Fault.{Fault}
 use Rattle.ram_disc.specs.Disc.{IsDisc, shell_stream, stream_at}
-use Rattle.kernel_model.specs.KernelRecord.Between.{ConsoleStands, DiscStands, IsAwaited, ResidentsStand, ShellStands}
+use Rattle.kernel_model.specs.KernelRecord.Between.{AreValidResidents, IsAwaited, IsValidConsole, IsValidDisc, IsValidShell}
 use Rattle.kernel_model.specs.KernelRecord.Image.{image}
 use Rattle.kernel_model.specs.KernelRecord.Kernel.{Kernel}
 use Rattle.kernel_model.specs.KernelRecord.Lists.{Lists}
-use Rattle.kernel_model.specs.KernelRecord.Pipes.{PipesStand}
+use Rattle.kernel_model.specs.KernelRecord.Pipes.{AreValidPipes}
 use Rattle.kernel_model.specs.KernelRecord.Task.{is_guest_id}
 use Rattle.kernel_model.specs.KernelRecord.ValidLists.{AreValid}
 use Rattle.kernel_model.specs.KernelRecord.Versions.{highest_id_of}
 use Rattle.kernel_calls.specs.CallAnswers.Callers.{HasCaller}
 use Rattle.resident_tasks.specs.ResidentRequests.Requests.{RunsResident, TakesRequest}
 use Rattle.resident_tasks.proofs.ResidentRequests.ResidentTurns.{takes-request}
-use Rattle.resident_tasks.specs.ConsoleHandler.ConsoleTurn.{KeysStand}
-use Rattle.resident_tasks.proofs.ConsoleHandler.KeptKeys.{keys-stand}
+use Rattle.resident_tasks.specs.ConsoleHandler.ConsoleTurn.{LineFits}
+use Rattle.resident_tasks.proofs.ConsoleHandler.KeptKeys.{line-fits-keys}
 use Rattle.resident_tasks.specs.FaultReporter.Recorded.{CanRecord, held_with, recorded, sent_where}
 use Rattle.resident_tasks.proofs.FaultReporter.FaultsKept.{recorded-hold, turn-hold}
 use Rattle.resident_tasks.specs.FileHandler.FileTurn.{file_service}
@@ -37,9 +37,9 @@ use Rattle.kernel_machine.specs.KernelSteps.Stepped.{Stepped, quietly}
 use Rattle.kernel_machine.proofs.KernelSteps.CallRules.{KeepsRules, turn-keeps}
 use Rattle.kernel_machine.proofs.KernelSteps.ConsoleRules.{IsKept}
 use Rattle.kernel_machine.proofs.KernelSteps.FaultCodes.{fault-code}
-use Rattle.kernel_machine.proofs.KernelSteps.FaultRule.{rule-of, rule-stands}
+use Rattle.kernel_machine.proofs.KernelSteps.FaultRule.{rule-of, rule-valid}
 use Rattle.kernel_machine.proofs.KernelSteps.HandledRules.{keeps-then, request-keeps}
-use Rattle.kernel_machine.proofs.KernelSteps.OwnersRules.{console-stands, disc-stands, pipes-stand, shell-stands, system-of}
+use Rattle.kernel_machine.proofs.KernelSteps.OwnersRules.{console-still-valid, disc-still-valid, pipes-still-valid, shell-still-valid, system-of}
 use Rattle.kernel_machine.proofs.KernelSteps.ReportedRuns.{report-reads}
 use Rattle.kernel_machine.proofs.KernelSteps.RunningCaller.{residents-there, runs-calls, runs-resident}
 use Rattle.kernel_machine.proofs.KernelSteps.TurnKept.{console-turned, numbers-turn}
@@ -47,13 +47,13 @@ use Rattle.kernel_machine.proofs.KernelSteps.TurnWays.{IsRecorded, guest-ways, t
 
 -- ---- what is kept outside the store stays
 
-pub rules-kept : (k j : Kernel) → HasSameResidents k j → IsSameSystem k.lists j.lists → KeepsRules k.lists j.lists → length j.type_ahead ≤ 128 → ResidentsStand k → ResidentsStand j
+pub rules-kept : (k j : Kernel) → HasSameResidents k j → IsSameSystem k.lists j.lists → KeepsRules k.lists j.lists → length j.type_ahead ≤ 128 → AreValidResidents k → AreValidResidents j
 rules-kept k j same system keeps ahead r = record {
-  faults = rule-stands j.lists (keeps.faults (rule-of k.lists r.faults));
-  console = subst (ConsoleStands j.lists) (sym same.console) (console-stands k.lists j.lists system k.console keeps.key keeps.pending r.console);
-  shell = subst (λ s. ShellStands j.lists s j.disc) (sym same.shell) (shell-stands k.lists j.lists system k.shell k.disc j.disc (ap (λ d. stream_at d shell_stream) same.disc) r.shell);
-  disc = subst (DiscStands j.lists) (sym same.disc) (disc-stands k.lists j.lists system k.disc r.disc);
-  pipes = subst (PipesStand j.lists) (sym same.pipes) (pipes-stand k.lists j.lists system k.pipes r.pipes);
+  faults = rule-valid j.lists (keeps.faults (rule-of k.lists r.faults));
+  console = subst (IsValidConsole j.lists) (sym same.console) (console-still-valid k.lists j.lists system k.console keeps.key keeps.pending r.console);
+  shell = subst (λ s. IsValidShell j.lists s j.disc) (sym same.shell) (shell-still-valid k.lists j.lists system k.shell k.disc j.disc (ap (λ d. stream_at d shell_stream) same.disc) r.shell);
+  disc = subst (IsValidDisc j.lists) (sym same.disc) (disc-still-valid k.lists j.lists system k.disc r.disc);
+  pipes = subst (AreValidPipes j.lists) (sym same.pipes) (pipes-still-valid k.lists j.lists system k.pipes r.pipes);
   ahead = ahead;
 }
 
@@ -96,9 +96,9 @@ guest-keeps s k v caller =
 
 module _ (k : Kernel) (can : CanTurn k) where
   abbrev Left : Stepped → Type 0
-  Left x = numbers_of x.kernel.lists ≡ numbers_of k.lists → IsDisc x.kernel.disc → ResidentsStand x.kernel
+  Left x = numbers_of x.kernel.lists ≡ numbers_of k.lists → IsDisc x.kernel.disc → AreValidResidents x.kernel
 
-  abbrev rules : ResidentsStand k
+  abbrev rules : AreValidResidents k
   rules = can.rules
 
   resident : (id : ℕ) → id ≢ 0 → is_guest_id id ≡ false → k.lists.running ≡ id → RunsResident k.lists
@@ -124,7 +124,7 @@ module _ (k : Kernel) (can : CanTurn k) where
     there-still : {P : Type 0} → m.residents ≡ false → P
     there-still none = absurd (false≢true (sym none ∙ ap (λ n. n.residents) numbers ∙ some))
 
-  beside-all : (j : Kernel) → HasSameResidents k j → KeepsRules k.lists j.lists → j.type_ahead ≡ k.type_ahead → numbers_of j.lists ≡ numbers_of k.lists → ResidentsStand j
+  beside-all : (j : Kernel) → HasSameResidents k j → KeepsRules k.lists j.lists → j.type_ahead ≡ k.type_ahead → numbers_of j.lists ≡ numbers_of k.lists → AreValidResidents j
   beside-all j same keeps ahead numbers = rules-kept k j same (system-of k.lists j.lists numbers) keeps (omega (arith, rules.ahead, ap length ahead)) rules
 
   guest-left : is_guest_id k.lists.running ≡ true → Left (guest_step k)
@@ -140,7 +140,7 @@ module _ (k : Kernel) (can : CanTurn k) where
       let sound : IsSound k.lists.version k.shell.line (shell_turn (image k) k.lists k.shell k.disc) = turn-sound (image k) k.lists k.shell k.disc rules.disc.valid.numbers rules.shell.typing rules.shell.awaited in
       record {
         faults = turn-faults (image k) k.lists k.shell k.disc can.lists (runs-shell one).runs one rules.faults;
-        console = console-stands k.lists j.lists system k.console (ap (λ (m : Lists). m.key) rest) (λ e. ap (λ (m : Lists). m.pending) rest ∙ e) rules.console;
+        console = console-still-valid k.lists j.lists system k.console (ap (λ (m : Lists). m.key) rest) (λ e. ap (λ (m : Lists). m.pending) rest ∙ e) rules.console;
         shell = record {
           typing = sound.typing;
           awaited = subst (λ v. IsAwaited (highest_id_of v) j.shell.mode) (sym system.version) sound.awaited;
@@ -148,7 +148,7 @@ module _ (k : Kernel) (can : CanTurn k) where
           absent = there-still j.lists (shell-there one) numbers;
         };
         disc = record { valid = disc; absent = there-still j.lists (shell-there one) numbers };
-        pipes = pipes-stand k.lists j.lists system k.pipes rules.pipes;
+        pipes = pipes-still-valid k.lists j.lists system k.pipes rules.pipes;
         ahead = rules.ahead;
       }
 
@@ -168,11 +168,11 @@ module _ (k : Kernel) (can : CanTurn k) where
       let system : IsSameSystem k.lists j.lists = system-of k.lists j.lists numbers in
       let kept : IsKept (numbers_of k.lists) (console_parts k) = console-turned k can three in
       let some : k.lists.residents ≡ true = console-there three in
-      let keys : KeysStand (console_parts k).lists (console_parts k).console =
-      keys-stand (awaited k.shell.mode) (image k) k.lists k.console k.shell.line (record { finished = rules.console.finished some; delivered = rules.console.delivered })
+      let keys : LineFits (console_parts k).lists (console_parts k).console =
+      line-fits-keys (awaited k.shell.mode) (image k) k.lists k.console k.shell.line (record { finished = rules.console.finished some; delivered = rules.console.delivered })
       in
       record {
-        faults = rule-stands j.lists kept.rule;
+        faults = rule-valid j.lists kept.rule;
         console = record { finished = λ _. keys.finished; delivered = keys.delivered; line = kept.line; absent = there-still j.lists some numbers };
         shell = record {
           typing = rules.shell.typing;
@@ -180,8 +180,8 @@ module _ (k : Kernel) (can : CanTurn k) where
           line = kept.command;
           absent = there-still j.lists some numbers;
         };
-        disc = disc-stands k.lists j.lists system k.disc rules.disc;
-        pipes = pipes-stand k.lists j.lists system k.pipes rules.pipes;
+        disc = disc-still-valid k.lists j.lists system k.disc rules.disc;
+        pipes = pipes-still-valid k.lists j.lists system k.pipes rules.pipes;
         ahead = rules.ahead;
       }
 
@@ -191,11 +191,11 @@ module _ (k : Kernel) (can : CanTurn k) where
       let system : IsSameSystem k.lists j.lists = system-of k.lists j.lists numbers in
       let keeps : KeepsRules k.lists j.lists = request-keeps k.lists (takes four) (file_service k.disc) (image k) in
       record {
-        faults = rule-stands j.lists (keeps.faults (rule-of k.lists rules.faults));
-        console = console-stands k.lists j.lists system k.console keeps.key keeps.pending rules.console;
-        shell = shell-stands k.lists j.lists system k.shell k.disc j.disc (stream-stays k.disc (image k) k.lists) rules.shell;
+        faults = rule-valid j.lists (keeps.faults (rule-of k.lists rules.faults));
+        console = console-still-valid k.lists j.lists system k.console keeps.key keeps.pending rules.console;
+        shell = shell-still-valid k.lists j.lists system k.shell k.disc j.disc (stream-stays k.disc (image k) k.lists) rules.shell;
         disc = record { valid = disc; absent = there-still j.lists (files-there four) numbers };
-        pipes = pipes-stand k.lists j.lists system k.pipes rules.pipes;
+        pipes = pipes-still-valid k.lists j.lists system k.pipes rules.pipes;
         ahead = rules.ahead;
       }
 
@@ -206,10 +206,10 @@ module _ (k : Kernel) (can : CanTurn k) where
       let keeps : KeepsRules k.lists j.lists = request-keeps k.lists (takes four) (pipe_service k.pipes) (image k) in
       let second : k.lists.version ≡ 2 = eqb-true k.lists.version 2 (and_parts _ _ serves).0 in
       record {
-        faults = rule-stands j.lists (keeps.faults (rule-of k.lists rules.faults));
-        console = console-stands k.lists j.lists system k.console keeps.key keeps.pending rules.console;
-        shell = shell-stands k.lists j.lists system k.shell k.disc k.disc refl rules.shell;
-        disc = disc-stands k.lists j.lists system k.disc rules.disc;
+        faults = rule-valid j.lists (keeps.faults (rule-of k.lists rules.faults));
+        console = console-still-valid k.lists j.lists system k.console keeps.key keeps.pending rules.console;
+        shell = shell-still-valid k.lists j.lists system k.shell k.disc k.disc refl rules.shell;
+        disc = disc-still-valid k.lists j.lists system k.disc rules.disc;
         pipes = record {
           pipes = turn-kept k.pipes (image k) k.lists rules.pipes.pipes;
           no_residents = there-still j.lists (files-there four) numbers;
@@ -221,7 +221,7 @@ module _ (k : Kernel) (can : CanTurn k) where
   stays-left : Left (quietly k)
   stays-left numbers disc = can.rules
 
-  pub turn-rules : IsDisc (turn k).kernel.disc → ResidentsStand (turn k).kernel
+  pub turn-rules : IsDisc (turn k).kernel.disc → AreValidResidents (turn k).kernel
   turn-rules disc =
       turn-ways Left k
       (record {

@@ -17,14 +17,14 @@ use Rattle.kernel_model.specs.KernelDispatch.Dispatch.{CanDispatch}
 use Rattle.guest_turns.specs.GuestTurn.{Numbers}
 use Rattle.kernel_boot.specs.BootFiles.{load_files}
 use Rattle.kernel_boot.specs.BootTasks.{AreBootLines, start_tasks}
-use Rattle.kernel_model.specs.KernelRecord.Standing.{Standing, standing}
+use Rattle.kernel_model.specs.KernelRecord.StoreWithLists.{StoreWithLists, store_with_lists}
 use Rattle.kernel_boot.specs.declared.refusals.BootRefusal.{BootRefusal}
 use Rattle.kernel_boot.specs.EmptyKernel.{empty_lists}
 use Rattle.kernel_boot.specs.ResidentKernel.{packet_from, resident_lists, resident_tasks, waiting_resident}
 use Rattle.kernel_boot.proofs.LawfulLines.{boot-lines}
 use Rattle.module_text.specs.TextReader.Steps.{◌>>=◌}
 use Rattle.kernel_machine.specs.KernelSteps.ResidentSteps.{with_disc}
-use Rattle.kernel_machine.specs.MachineBoot.Boot.{HasKernel, boot, first_kernel, first_lists, started, with_files, with_lines, with_standing, with_tasks}
+use Rattle.kernel_machine.specs.MachineBoot.Boot.{HasKernel, boot, first_kernel, first_lists, started, with_files, with_lines, with_store_of, with_tasks}
 use Rattle.kernel_machine.specs.MachineBoot.Booted.{CanLoad, CanStart, IsFresh}
 use Rattle.kernel_machine.proofs.MachineBoot.LoadedDiscs.{IsShutDisc, files-shut, no-stream}
 use Rattle.kernel_machine.proofs.MachineBoot.ReadyTasks.{IsReady, tasks-ready}
@@ -55,7 +55,7 @@ empty-shut = record {
         few = omega arith;
         room = omega arith;
         numbers = refl;
-        stand = λ k s e. (let none = no-stream empty_disc k refl in cc);
+        streams = λ k s e. (let none = no-stream empty_disc k refl in cc);
       };
   shut = refl;
 }
@@ -65,7 +65,7 @@ residents-fresh : (reporter : Bool) → AllByRecursion (IsFresh reporter) (resid
 residents-fresh reporter = on reporter
   where
     waiting : (free : Bool) (id address priority : ℕ) (ps : List QueuedPacket) → 1 ≤ id → (ps ≡ []) ⊎ (is_guest_id id ≡ false) → (id ≡ 2 → (ps ≡ []) × (free ≡ true)) → IsFresh free (waiting_resident id address priority ps)
-    waiting free id address priority ps some takes reports = record { number = some; stands = λ e. cc; takes = takes; fault = refl; reporter = reports }
+    waiting free id address priority ps some takes reports = record { number = some; idle = λ e. cc; takes = takes; fault = refl; reporter = reports }
 
     -- one that is not the reporter
     other : (free : Bool) (id address priority : ℕ) (ps : List QueuedPacket) → 1 ≤ id → (ps ≡ []) ⊎ (is_guest_id id ≡ false) → (id ≡ 2 → ⊥) → IsFresh free (waiting_resident id address priority ps)
@@ -142,14 +142,14 @@ module _ (s : Session) where
 
     pub tasks-begun : (k j : Kernel) → HasBegun s k → with_tasks s.lines k ≡ Ok j → HasBegun s j
     unfolding with_tasks
-    tasks-begun k j b is = on (start_tasks k.disc s.lines (standing (image k) k.lists)) refl is
+    tasks-begun k j b is = on (start_tasks k.disc s.lines (store_with_lists (image k) k.lists)) refl is
       where
-        on : (r : Result Standing BootRefusal) → start_tasks k.disc s.lines (standing (image k) k.lists) ≡ r → (r >>= (λ x. Ok (with_standing x k))) ≡ Ok j → HasBegun s j
+        on : (r : Result StoreWithLists BootRefusal) → start_tasks k.disc s.lines (store_with_lists (image k) k.lists) ≡ r → (r >>= (λ x. Ok (with_store_of x k))) ≡ Ok j → HasBegun s j
         on (Ok x) e f =
-            let same : with_standing x k ≡ j = cc in
+            let same : with_store_of x k ≡ j = cc in
             subst (HasBegun s) same
             (record {
-              ready = tasks-ready (first_numbers s) s.store s.version k.disc s.lines (standing (image k) k.lists) x ready-lines e b.ready;
+              ready = tasks-ready (first_numbers s) s.store s.version k.disc s.lines (store_with_lists (image k) k.lists) x ready-lines e b.ready;
               regs = b.regs;
               steps = b.steps;
               console = b.console;
@@ -176,7 +176,7 @@ module _ (s : Session) where
 
     pub begun-dispatches : (k : Kernel) → HasBegun s k → CanDispatch k.lists k.regs
     begun-dispatches k b = record {
-      field = all-each (IsFresh k.lists.fault_packet_free) (λ t. t.field ≡ runs → t.id ≡ k.lists.running) (λ t fresh e. absurd (fresh.stands e)) k.lists.tasks b.ready.fresh.tasks;
+      field = all-each (IsFresh k.lists.fault_packet_free) (λ t. t.field ≡ runs → t.id ≡ k.lists.running) (λ t fresh e. absurd (fresh.idle e)) k.lists.tasks b.ready.fresh.tasks;
       registers = record { byte = omega (arith, ap (λ (r : Regs). r.c) b.regs); idle = λ nobody. b.regs };
     }
 

@@ -10,11 +10,11 @@ use Rattle.ram_disc.specs.Disc.{most_streams, shell_stream}
 use Rattle.session_text.specs.Canonical.{IsLawfulKey, IsLawfulMachine}
 use Rattle.kernel_model.specs.KernelRecord.Ranges.{most_steps}
 use Rattle.session_text.specs.declared.sessions.Session.{Session}
-use Rattle.kernel_model.specs.KernelRecord.Between.{AreShut, ConsoleStands, DiscStands, FaultsStand, IsAwaited, ResidentsStand, ShellStands, Tells, is_ready, is_typing}
+use Rattle.kernel_model.specs.KernelRecord.Between.{AreShut, AreValidFaults, AreValidResidents, IsAwaited, IsValidConsole, IsValidDisc, IsValidShell, Tells, is_ready, is_typing}
 use Rattle.kernel_model.specs.KernelRecord.Image.{HasPlainWords, image, settled}
 use Rattle.kernel_model.specs.KernelRecord.Kernel.{Kernel, Pipe}
 use Rattle.kernel_model.specs.KernelRecord.Lists.{Lists}
-use Rattle.kernel_model.specs.KernelRecord.Pipes.{PipesStand, most_pipes, pipe_at}
+use Rattle.kernel_model.specs.KernelRecord.Pipes.{AreValidPipes, most_pipes, pipe_at}
 use Rattle.kernel_model.specs.KernelRecord.Task.{Task, is_guest_id}
 use Rattle.kernel_model.specs.KernelRecord.ValidKernel.{HasSteps, IsValid}
 use Rattle.kernel_model.specs.KernelRecord.ValidLists.{AreValid}
@@ -27,7 +27,7 @@ use Rattle.kernel_machine.specs.KernelSteps.Parts.{RunsFirst}
 use Rattle.kernel_machine.specs.KernelSteps.Step.{boot_events, dispatch, first_events, run_events}
 use Rattle.kernel_machine.specs.KernelSteps.Stepped.{Stepped}
 use Rattle.kernel_machine.proofs.KernelSteps.DispatchKept.{GoesOn, dispatch-numbers, runs-first, three-ways}
-use Rattle.kernel_machine.proofs.KernelSteps.FaultRule.{rule-stands}
+use Rattle.kernel_machine.proofs.KernelSteps.FaultRule.{rule-valid}
 use Rattle.kernel_machine.proofs.KernelSteps.StepKept.{dispatch-residents, dispatch-rules}
 use Rattle.kernel_machine.proofs.KernelSteps.TurnRules.{rules-kept}
 use Rattle.kernel_boot.specs.declared.refusals.BootRefusal.{BootRefusal}
@@ -68,7 +68,7 @@ module _ (s : Session) (h : HasKernel s) where
 
     -- ---- the rules of the kernel
 
-    console : ConsoleStands k.lists k.console
+    console : IsValidConsole k.lists k.console
     console = record {
       finished = λ some. ap (λ c. c.finished) b.console ∙ sym (ap is_some b.ready.fresh.key);
       delivered = λ some. (let unfinished : k.console.finished ≡ false = ap (λ c. c.finished) b.console in cc);
@@ -76,7 +76,7 @@ module _ (s : Session) (h : HasKernel s) where
       absent = λ e. b.console;
     }
 
-    shell : ShellStands k.lists k.shell k.disc
+    shell : IsValidShell k.lists k.shell k.disc
     shell = record {
       typing = ap is_some (no-stream k.disc shell_stream b.disc.shut) ∙ ap (λ c. is_typing c.mode) (sym b.shell);
       awaited = subst (λ c. IsAwaited (highest_id_of k.lists.version) c.mode) (sym b.shell) tt;
@@ -84,13 +84,13 @@ module _ (s : Session) (h : HasKernel s) where
       absent = λ e. b.shell;
     }
 
-    disc : DiscStands k.lists k.disc
+    disc : IsValidDisc k.lists k.disc
     disc = record { valid = b.disc.valid; absent = λ e. subst AreShut (sym b.disc.shut) (none-shut most_streams) }
 
     no-pipe : (i : ℕ) → pipe_at k.pipes i ≡ None
     no-pipe i = ap (λ ps. pipe_at ps i) b.pipes ∙ none-at {X = Pipe} most_pipes i
 
-    pipes : PipesStand k.lists k.pipes
+    pipes : AreValidPipes k.lists k.pipes
     pipes = record {
       pipes =
           record {
@@ -102,12 +102,12 @@ module _ (s : Session) (h : HasKernel s) where
       first_version = λ e. b.pipes;
     }
 
-    faults : FaultsStand k.lists
+    faults : AreValidFaults k.lists
     faults =
         let free : Bool = k.lists.fault_packet_free in
         let ts : List Task = k.lists.tasks in
         let fresh : FreshTasks free ts = b.ready.fresh.tasks in
-        rule-stands k.lists
+        rule-valid k.lists
         (λ there. record {
           waits = λ reports. free-there free ts fresh reports ∙ sym (ap not (none-unreported free ts fresh));
           sender = subst (AllByRecursion (Tells ts)) (sym (no-reports free ts fresh)) tt;
@@ -125,7 +125,7 @@ module _ (s : Session) (h : HasKernel s) where
     unfolding dispatch settled
     few-ahead = omega (arith, ap length b.ahead)
 
-    rules : ResidentsStand (dispatch k).kernel
+    rules : AreValidResidents (dispatch k).kernel
     rules =
         rules-kept k (dispatch k).kernel (dispatch-residents k)
         (record { version = same-numbers (λ n. n.version) (λ n running. refl); residents = same-residents }) (dispatch-rules k) few-ahead
@@ -164,7 +164,7 @@ module _ (s : Session) (h : HasKernel s) where
         each : (t : Task) → IsFresh k.lists.fault_packet_free t → IsFresh k.lists.fault_packet_free (suspended k.regs t)
         each t fresh = record {
           number = fresh.number;
-          stands = subst (λ c. cond c 8 t.field ≡ runs → ⊥) (sym (ne_eqb t.field 0 fresh.stands)) fresh.stands;
+          idle = subst (λ c. cond c 8 t.field ≡ runs → ⊥) (sym (ne_eqb t.field 0 fresh.idle)) fresh.idle;
           takes = fresh.takes;
           fault = fresh.fault;
           reporter = fresh.reporter;
@@ -177,7 +177,7 @@ module _ (s : Session) (h : HasKernel s) where
     fresh-at l t all is = subst (λ o. IfSome o (IsFresh k.lists.fault_packet_free)) is (fresh-found k.lists.fault_packet_free is_ready l.tasks all)
 
     same-task : (t : Task) → GoesOn k.lists t → Shows (unchanged k.lists k.regs)
-    same-task t g = absurd ((fresh-at k.lists t b.ready.fresh.tasks g.first).stands g.field)
+    same-task t g = absurd ((fresh-at k.lists t b.ready.fresh.tasks g.first).idle g.field)
 
     nobody : first_ready_task m ≡ None → Shows (with_nobody m)
     nobody none = ap (λ n. cond (eqb n 0) [] (Runs 0 ∷ [])) nobody-runs

@@ -35,9 +35,9 @@ module _ (p : Parts) (k : Kernel) (h : RepresentsKernel p k) (t : List ℕ) (reg
   plain : HasPlainWords (settled m.plain k m.lists)
   plain = settled-plain k m.lists m.plain is.lists.lists.valid.owns
 
-  pub dispatched-stands : RepresentsKernel (record p { store = t; regs = regs; kinds = kinds }) (dispatch k).kernel
+  pub dispatched-represents : RepresentsKernel (record p { store = t; regs = regs; kinds = kinds }) (dispatch k).kernel
   unfolding dispatch settled
-  dispatched-stands = record {
+  dispatched-represents = record {
     keeper = record { lists = is.lists.lists; knows = is.knows; enough = omega (arith, room, is.lists.size, ap length (image-list p.store k h.image), h.keeper.enough) };
     marks = room ∙ h.marks ∙ ap length (image-list p.store k h.image) ∙ sym is.lists.size;
     image = record { size = after.size; holds = after.holds; plain = after.plain };

@@ -94,9 +94,9 @@ module _ (s : Session) (p : Parts) (m : AreMade s p) where
       let words : plain_words p.store lists ≡ plain_words (replicate s.store 0) lists = plain-same (replicate s.store 0) p.store lists m.store.lists m.store.written.others in
       subst (λ ws. HasStore p.store (record (first_kernel s) { plain = ws })) words (stored p.store lists (first_kernel s) m.store.lists)
 
-  pub made-stands : RepresentsKernel p (first_kernel s)
+  pub made-represents : RepresentsKernel p (first_kernel s)
   unfolding first_kernel
-  made-stands = record {
+  made-represents = record {
     keeper =
         record {
           lists = m.store.lists;

@@ -151,7 +151,7 @@ module _ (d : Disc) (h : IsShutDisc d) (name bytes : List ℕ) (lawful : IsName 
       few = omega (arith, few, length-with name bytes d.files);
       room = room;
       numbers = h.valid.numbers;
-      stand = λ k s e. (let none = no-stream (with_bytes d name bytes) k h.shut in cc);
+      streams = λ k s e. (let none = no-stream (with_bytes d name bytes) k h.shut in cc);
     };
     shut = h.shut;
   }

@@ -24,7 +24,7 @@ use Rattle.guest_turns.specs.GuestTurn.{Numbers, numbers_of}
 use Rattle.kernel_boot.specs.BegunTask.{begun, with_begun}
 use Rattle.kernel_boot.specs.BootFiles.{at_line}
 use Rattle.kernel_boot.specs.BootTasks.{AreBootLines, IsBootForm, begin_it, create_it, load_bytes, load_named, load_names, load_text, on_answer, start_form, start_tasks}
-use Rattle.kernel_model.specs.KernelRecord.Standing.{Standing, left_with}
+use Rattle.kernel_model.specs.KernelRecord.StoreWithLists.{StoreWithLists, left_with}
 use Rattle.kernel_boot.proofs.StartedTasks.{number-is}
 use Rattle.kernel_machine.specs.MachineBoot.Booted.{AreFresh, IsFresh}
 
@@ -101,8 +101,8 @@ module _ (nums : Numbers) (size : ℕ) where
   named-ready : (d : Disc) (name : List ℕ) (l : Lists) → IsReady nums size l → IsReady nums size (load_named d name l).lists
   named-ready d name l h = bytes-ready l (option_map (λ f. f.bytes) (file_named d name)) h
 
-  names-ready : (d : Disc) (names : List (List ℕ)) (modules : List ℕ) (k : Standing) (x : List ℕ × Standing) → load_names d names modules k ≡ Ok x → IsReady nums size k.lists → IsReady nums size x.1.lists
-  names-ready d [] modules k x is h = (let same : (modules, k) ≡ x = cc in subst (λ (y : List ℕ × Standing). IsReady nums size y.1.lists) same h)
+  names-ready : (d : Disc) (names : List (List ℕ)) (modules : List ℕ) (k : StoreWithLists) (x : List ℕ × StoreWithLists) → load_names d names modules k ≡ Ok x → IsReady nums size k.lists → IsReady nums size x.1.lists
+  names-ready d [] modules k x is h = (let same : (modules, k) ≡ x = cc in subst (λ (y : List ℕ × StoreWithLists). IsReady nums size y.1.lists) same h)
   names-ready d (name ∷ names) modules k x is h =
       on
       (λ m e. names-ready d names (modules ++ m ∷ []) (left_with k.words (load_named d name k.lists).lists (load_named d name k.lists).plain) x e (named-ready d name k.lists h))
@@ -123,7 +123,7 @@ module _ (nums : Numbers) (size : ℕ) where
       let n : ℕ = unwrap_or (number_of l id) 0 in
       let t : TaskRecord = new_task l n modules u pri maker in
       let number : n ≡ id = number-is l id n low refl in
-      let fresh : IsFresh l.fault_packet_free t = record { number = omega (arith, low, number); stands = λ dead. absurd (omega (arith, dead)); takes = inl refl; fault = refl; reporter = λ e. absurd (omega (arith, low, number, e)) } in
+      let fresh : IsFresh l.fault_packet_free t = record { number = omega (arith, low, number); idle = λ dead. absurd (omega (arith, dead)); takes = inl refl; fault = refl; reporter = λ e. absurd (omega (arith, low, number, e)) } in
       refused-ready (first_refusal (creation_tests s l id modules u pri)) l (with_created s l t) h
       (record { numbers = h.numbers; size = h.size; fresh = record { tasks = all-inserted (IsFresh l.fault_packet_free) _ t l.tasks fresh h.fresh.tasks; key = h.fresh.key } })
 
@@ -135,18 +135,18 @@ module _ (nums : Numbers) (size : ℕ) where
     fresh = record {
       tasks =
           fresh-changed l.fault_packet_free id (begun l.version words)
-          (λ t one. record { number = one.number; stands = λ interrupted. absurd (omega (arith, interrupted)); takes = one.takes; fault = one.fault; reporter = one.reporter }) l.tasks h.fresh.tasks;
+          (λ t one. record { number = one.number; idle = λ interrupted. absurd (omega (arith, interrupted)); takes = one.takes; fault = one.fault; reporter = one.reporter }) l.tasks h.fresh.tasks;
       key = h.fresh.key;
     };
   }
 
-  begin-ready : (r : Result ℕ ℕ) (k j : Standing) → on_answer r k begin_it ≡ Ok j → IsReady nums size k.lists → IsReady nums size j.lists
+  begin-ready : (r : Result ℕ ℕ) (k j : StoreWithLists) → on_answer r k begin_it ≡ Ok j → IsReady nums size k.lists → IsReady nums size j.lists
   begin-ready (Ok n) k j is h =
       let same : left_with k.words (with_begun k.words n k.lists) [] ≡ j = cc in
-      subst (λ (y : Standing). IsReady nums size y.lists) same (begun-ready k.words n k.lists h)
+      subst (λ (y : StoreWithLists). IsReady nums size y.lists) same (begun-ready k.words n k.lists h)
   begin-ready (Err code) k j is h = cc
 
-  create-ready : (id pri stack : ℕ) → 5 ≤ id → (r : Result (List ℕ × Standing) ℕ) (j : Standing) → create_it id pri stack r ≡ Ok j → ((x : List ℕ × Standing) → r ≡ Ok x → IsReady nums size x.1.lists) → IsReady nums size j.lists
+  create-ready : (id pri stack : ℕ) → 5 ≤ id → (r : Result (List ℕ × StoreWithLists) ℕ) (j : StoreWithLists) → create_it id pri stack r ≡ Ok j → ((x : List ℕ × StoreWithLists) → r ≡ Ok x → IsReady nums size x.1.lists) → IsReady nums size j.lists
   create-ready id pri stack low (Ok x) j is h =
       let made : Made = create_task x.1.words x.1.lists id x.0 stack pri 0 in
       begin-ready made.answer (left_with x.1.words made.lists made.plain) j is (created-ready x.1.words x.1.lists id x.0 stack pri 0 low (h x refl))
@@ -154,20 +154,20 @@ module _ (nums : Numbers) (size : ℕ) where
 
   -- ---- the lines
 
-  form-ready : (version : ℕ) (d : Disc) (form : LineForm) (k j : Standing) → IsBootForm version form → start_form d form k ≡ Ok j → IsReady nums size k.lists → IsReady nums size j.lists
-  form-ready version d (File name bytes) k j may is h = (let same : k ≡ j = cc in subst (λ (y : Standing). IsReady nums size y.lists) same h)
-  form-ready version d (Code bytes) k j may is h = (let same : k ≡ j = cc in subst (λ (y : Standing). IsReady nums size y.lists) same h)
+  form-ready : (version : ℕ) (d : Disc) (form : LineForm) (k j : StoreWithLists) → IsBootForm version form → start_form d form k ≡ Ok j → IsReady nums size k.lists → IsReady nums size j.lists
+  form-ready version d (File name bytes) k j may is h = (let same : k ≡ j = cc in subst (λ (y : StoreWithLists). IsReady nums size y.lists) same h)
+  form-ready version d (Code bytes) k j may is h = (let same : k ≡ j = cc in subst (λ (y : StoreWithLists). IsReady nums size y.lists) same h)
   form-ready version d (Task id pri stack names) k j may is h = on (has_task id k.lists.tasks) is
     where
       on : (b : Bool) → cond b (Err 27) (create_it id pri stack (load_names d names [] k)) ≡ Ok j → IsReady nums size j.lists
       on true e = cc
       on false e = create-ready id pri stack may.low (load_names d names [] k) j e (λ x loaded. names-ready d names [] k x loaded h)
 
-  pub tasks-ready : (version : ℕ) (d : Disc) (lines : List SessionLine) (k j : Standing) → AreBootLines version lines → start_tasks d lines k ≡ Ok j → IsReady nums size k.lists → IsReady nums size j.lists
-  tasks-ready version d [] k j may is h = (let same : k ≡ j = cc in subst (λ (y : Standing). IsReady nums size y.lists) same h)
+  pub tasks-ready : (version : ℕ) (d : Disc) (lines : List SessionLine) (k j : StoreWithLists) → AreBootLines version lines → start_tasks d lines k ≡ Ok j → IsReady nums size k.lists → IsReady nums size j.lists
+  tasks-ready version d [] k j may is h = (let same : k ≡ j = cc in subst (λ (y : StoreWithLists). IsReady nums size y.lists) same h)
   tasks-ready version d (line ∷ lines) k j may is h = on (λ i e more. tasks-ready version d lines i j may.1 e more) (start_form d line.form k) refl is
     where
-      on : ((i : Standing) → start_tasks d lines i ≡ Ok j → IsReady nums size i.lists → IsReady nums size j.lists) → (r : Result Standing ℕ) → start_form d line.form k ≡ r
+      on : ((i : StoreWithLists) → start_tasks d lines i ≡ Ok j → IsReady nums size i.lists → IsReady nums size j.lists) → (r : Result StoreWithLists ℕ) → start_form d line.form k ≡ r
           → at_line line.line r (λ i. start_tasks d lines i) ≡ Ok j → IsReady nums size j.lists
       on more (Ok i) e f = more i f (form-ready version d line.form k i may.0 e h)
       on more (Err code) e f = cc

@@ -17,21 +17,21 @@ use Rattle.kernel_machine.specs.RunningMachine.Leaves.{Leaves}
 
 -- nothing was done
 pub leaves-none : (p : Parts) (o : Outside) (k : Kernel) → RepresentsKernel p k → Leaves p o o (quietly k)
-leaves-none p o k st = record { stands = st; bytes = sym (append-nil o.shown); notes = notes-none o.noted o.failed }
+leaves-none p o k st = record { represents = st; bytes = sym (append-nil o.shown); notes = notes-none o.noted o.failed }
 
 -- one after the other
 pub leaves-then : (p q : Parts) (a b c : Outside) (x : Stepped) (next : Kernel → Stepped) → Leaves p a b x → Leaves q b c (next x.kernel) → Leaves q a c (and_then x next)
 leaves-then p q a b c x next one two = record {
-  stands = two.stands;
+  represents = two.represents;
   bytes = two.bytes ∙ ap (λ z. z ++ (next x.kernel).bytes) one.bytes ∙ append_assoc a.shown x.bytes (next x.kernel).bytes;
   notes = notes-then a.noted b.noted c.noted a.failed b.failed c.failed x.events (next x.kernel).events one.notes two.notes;
 }
 
 -- lists, plain words and registers have changed, and with them the keeper and whether the machine stops
 module _ (p : Parts) (k : Kernel) (st : RepresentsKernel p k) where
-  pub stands-changed : (s t : List ℕ) (marks : List Bool) (regs : Regs) (l : Lists) (plain : Pairs) (r : Regs) (stop : Option Stop) → length s ≡ length p.store → IsChanged s t l plain → Knows (MarksAll marks) l → length marks ≡ length p.kinds
+  pub represents-changed : (s t : List ℕ) (marks : List Bool) (regs : Regs) (l : Lists) (plain : Pairs) (r : Regs) (stop : Option Stop) → length s ≡ length p.store → IsChanged s t l plain → Knows (MarksAll marks) l → length marks ≡ length p.kinds
       → regs ≡ r → l.period ≡ k.lists.period → RepresentsKernel (record p { store = t; regs = regs; kinds = marks }) (record (with_store (written plain s) l k) { regs = r; stop = stop })
-  stands-changed s t marks regs l plain r stop size c knows room e same =
+  represents-changed s t marks regs l plain r stop size c knows room e same =
       let own = c.lists.valid.owns in
       let image = image-stored s t l k plain c.lists.size c.written in
       let words = plain-stored (written plain s) l k own in

@@ -32,10 +32,10 @@ module _ (p : Parts) (stop : Option Stop) (w : IsWhole p stop) where
         on (Some s) e = subst (λ (x : Stepped). IsValid x.kernel) (sym (step-stays now s e)) w.valid
 
     pub kernel-after : kernel_of q r ≡ (step now).kernel
-    kernel-after = one-machine q (step now).kernel left.stands r (sym ends)
+    kernel-after = one-machine q (step now).kernel left.represents r (sym ends)
 
     pub whole-after : IsWhole q r
-    whole-after = whole q (step now).kernel left.stands valid-after r (sym ends)
+    whole-after = whole q (step now).kernel left.represents valid-after r (sym ends)
 
     pub stop-after : r ≡ (kernel_of q r).stop
     stop-after = sym (stop-of q r)
@@ -56,10 +56,10 @@ module _ (p : Parts) (stop : Option Stop) (w : IsWhole p stop) (goes : (kernel_o
     ends-none = h.goes ∙ sym not-stopped
 
     kernel-passed : kernel_of q stop ≡ (run n (kernel_of p None)).kernel
-    kernel-passed = one-machine q (run n (kernel_of p None)).kernel h.stands stop ends-none
+    kernel-passed = one-machine q (run n (kernel_of p None)).kernel h.represents stop ends-none
 
     pub whole-passed : IsWhole q stop
-    whole-passed = whole q (run n (kernel_of p None)).kernel h.stands h.valid stop ends-none
+    whole-passed = whole q (run n (kernel_of p None)).kernel h.represents h.valid stop ends-none
 
     pub run-passed : run n (kernel_of p stop) ≡ quietly (kernel_of q stop)
     run-passed = ap (run n) (sym here) ∙ h.quiet ∙ ap quietly (sym kernel-passed)

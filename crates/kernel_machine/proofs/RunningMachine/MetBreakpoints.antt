@@ -35,7 +35,7 @@ module _ (breakpoints : List ℕ) (k : Kernel) where
   pub way-met : (n m : ℕ) (p : Parts) → IsOnWay k n m p → has_breakpoint p.regs.pc breakpoints ≡ false → is_met breakpoints (run n k).kernel ≡ false
   way-met n m p way elsewhere =
       not-both (is_guest_id (run n k).kernel.lists.running) (has_breakpoint (run n k).kernel.regs.pc breakpoints)
-      (ap (λ r. has_breakpoint r.pc breakpoints) (sym way.passed.stands.regs) ∙ elsewhere)
+      (ap (λ r. has_breakpoint r.pc breakpoints) (sym way.passed.represents.regs) ∙ elsewhere)
 
   pub avoids-few : (n : ℕ) → n ≤ 1 → Avoids breakpoints n k
   avoids-few n few = λ i some low. absurd (omega (arith, few, some, low))

@@ -68,4 +68,4 @@ module _ (p : Parts) (k : Kernel) (st : RepresentsKernel p k) where
 
   -- and is a whole machine with it
   pub whole : IsValid k → (stop : Option Stop) → k.stop ≡ stop → IsWhole p stop
-  whole h stop e = record { stands = subst (RepresentsKernel p) (sym (one-machine stop e)) st; valid = subst IsValid (sym (one-machine stop e)) h }
+  whole h stop e = record { represents = subst (RepresentsKernel p) (sym (one-machine stop e)) st; valid = subst IsValid (sym (one-machine stop e)) h }

@@ -6,9 +6,9 @@ use Rattle.kernel_model.specs.KernelRecord.Kernel.{Console, Kernel, Pipe, Shell}
 use Rattle.kernel_machine.specs.declared.running_machine.parts.Parts.{Parts}
 use Rattle.kernel_machine.specs.RunningMachine.RepresentedKernels.{RepresentsKernel}
 
-pub stands-beside : (p : Parts) (k : Kernel) → RepresentsKernel p k → {console now : Console} {shell put : Shell} {disc new : Disc} {pipes held : List (Option Pipe)} → console ≡ now → shell ≡ put → disc ≡ new → pipes ≡ held
+pub represents-beside : (p : Parts) (k : Kernel) → RepresentsKernel p k → {console now : Console} {shell put : Shell} {disc new : Disc} {pipes held : List (Option Pipe)} → console ≡ now → shell ≡ put → disc ≡ new → pipes ≡ held
     → RepresentsKernel (record p { console = console; shell = shell; disc = disc; pipes = pipes }) (record k { console = now; shell = put; disc = new; pipes = held })
-stands-beside p k st console shell disc pipes = record {
+represents-beside p k st console shell disc pipes = record {
   keeper = st.keeper;
   marks = st.marks;
   image = record { size = st.image.size; holds = st.image.holds; plain = st.image.plain };
@@ -25,8 +25,8 @@ stands-beside p k st console shell disc pipes = record {
 }
 
 -- the file handler's buffer is no part of the kernel
-pub stands-buffer : (p : Parts) (k : Kernel) (bytes : ArrayVec ℕ) → RepresentsKernel p k → RepresentsKernel (record p { bytes = bytes }) k
-stands-buffer p k bytes st = record {
+pub represents-buffer : (p : Parts) (k : Kernel) (bytes : ArrayVec ℕ) → RepresentsKernel p k → RepresentsKernel (record p { bytes = bytes }) k
+represents-buffer p k bytes st = record {
   keeper = st.keeper;
   marks = st.marks;
   image = st.image;

@@ -49,22 +49,22 @@ module _ (p : Parts) (w : IsWhole p None) where
   now = kernel_of p None
 
   pub byte-whole : p.regs.c < 256
-  byte-whole = subst (λ r. r.c < 256) (sym w.stands.regs) w.valid.registers.byte
+  byte-whole = subst (λ r. r.c < 256) (sym w.represents.regs) w.valid.registers.byte
 
   pub keeper-whole : (l : Lists) × HasKeeper p.store (MarksAll p.kinds) (length p.kinds) l
-  keeper-whole = (now.lists, w.stands.keeper)
+  keeper-whole = (now.lists, w.represents.keeper)
 
   -- in a plain step the instruction is executed
   pub plain-executed : (o : Outcome) → ((l : Lists) → HasKeeper p.store (MarksAll p.kinds) (length p.kinds) l → o ≡ (instruction (is_owned l) p.store p.regs).outcome) → IsPlain now → o ≡ Next
   plain-executed o outcome plain =
-      outcome now.lists w.stands.keeper ∙ (λ j. (instruction (is_owned now.lists) (image-list p.store now w.stands.image j) (w.stands.regs j)).outcome) ∙ plain.executed
+      outcome now.lists w.represents.keeper ∙ (λ j. (instruction (is_owned now.lists) (image-list p.store now w.represents.image j) (w.represents.regs j)).outcome) ∙ plain.executed
 
   module _ (t : List ℕ) (r : Regs) (o : Outcome) (outcome : (l : Lists) → HasKeeper p.store (MarksAll p.kinds) (length p.kinds) l → o ≡ (instruction (is_owned l) p.store p.regs).outcome) (words : (l : Lists) → HasKeeper p.store (MarksAll p.kinds) (length p.kinds) l → t ≡ (instruction (is_owned l) p.store p.regs).words) (regs : (l : Lists) → HasKeeper p.store (MarksAll p.kinds) (length p.kinds) l → r ≡ (instruction (is_owned l) p.store p.regs).regs) (lists : (l : Lists) → HasKeeper p.store (MarksAll p.kinds) (length p.kinds) l → HoldsLists t l) where
     -- what is not executed leaves the parts
     pub whole-stays : (o ≡ Next → ⊥) → record p { store = t; regs = r } ≡ p
     whole-stays other =
         let l : Lists = now.lists in
-        let keeper : HasKeeper p.store (MarksAll p.kinds) (length p.kinds) l = w.stands.keeper in
+        let keeper : HasKeeper p.store (MarksAll p.kinds) (length p.kinds) l = w.represents.keeper in
         let same = (stays-instruction (is_owned l) p.store p.regs).stays (λ e. other (outcome l keeper ∙ e)) in
         λ j. record p { store = (words l keeper ∙ same.0) j; regs = (regs l keeper ∙ same.1) j }
 
@@ -74,7 +74,7 @@ module _ (p : Parts) (w : IsWhole p None) where
         let way : IsOnWay now 0 1 p = on-way-first p w 1 guest (λ some. quiet) in
         let enough : now.steps + (0 + suc 0) ≤ most_steps = omega (arith, few) in
         let l : Lists = (run 0 now).kernel.lists in
-        let keeper : HasKeeper p.store (MarksAll p.kinds) (length p.kinds) l = way.passed.stands.keeper in
+        let keeper : HasKeeper p.store (MarksAll p.kinds) (length p.kinds) l = way.passed.represents.keeper in
         let same = instruction-here now 0 0 p way enough in
         (on-way-next now 0 0 p way enough (ap (λ z. z.outcome) (sym same) ∙ (sym (outcome l keeper) ∙ next)) t r (lists l keeper) (words l keeper ∙ ap (λ z. z.words) same) (regs l keeper ∙ ap (λ z. z.regs) same)).passed
 
@@ -82,7 +82,7 @@ module _ (p : Parts) (w : IsWhole p None) where
     pub differ-one : (places : Places) (n : ℕ) → ((marks : ℕ → Bool) → DifferAt (addresses places) p.store (instruction marks p.store p.regs).words) → DifferBeside places p.store (set t 108 n)
     differ-one places n d =
         let l : Lists = now.lists in
-        differ-ticked 108 n (addresses places) p.store t (subst (DifferAt (addresses places) p.store) (sym (words l w.stands.keeper)) (d (is_owned l)))
+        differ-ticked 108 n (addresses places) p.store t (subst (DifferAt (addresses places) p.store) (sym (words l w.represents.keeper)) (d (is_owned l)))
 
 -- ---- the machine
 
@@ -98,8 +98,8 @@ module _ (p : Parts) (stop : Option Stop) (w : IsWhole p stop) (goes : (kernel_o
   plain-step places (passed, differ) =
       let k : Kernel = kernel_of p stop in
       let j : Kernel = kernel_of q stop in
-      let old : p.store ≡ image k = image-list p.store k w.stands.image in
-      let new : q.store ≡ image j = image-list q.store j (whole-passed p stop w goes 1 q passed).stands.image in
+      let old : p.store ≡ image k = image-list p.store k w.represents.image in
+      let new : q.store ≡ image j = image-list q.store j (whole-passed p stop w goes 1 q passed).represents.image in
       record {
         step = sym (run-one k) ∙ run-passed p stop w goes 1 q passed;
         goes = goes-passed p stop w goes 1 q passed;

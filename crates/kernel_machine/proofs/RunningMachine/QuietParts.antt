@@ -59,7 +59,7 @@ module _ (p : Parts) (w : IsWhole p None) where
   goes-on = stop-of p None
 
   held : HoldsLists p.store now.lists
-  held = w.stands.keeper.lists
+  held = w.represents.keeper.lists
 
   pub ticks-now : now.lists.tick ≡ now.steps / now.lists.period
   ticks-now = w.valid.ticks goes-on
@@ -68,13 +68,13 @@ module _ (p : Parts) (w : IsWhole p None) where
   period-now = some-period now.lists w.valid.lists
 
   pub period-here : 0 < p.period
-  period-here = omega (arith, period-now, w.stands.period)
+  period-here = omega (arith, period-now, w.represents.period)
 
   pub tick-word : get_or p.store 108 0 ≡ now.lists.tick
   tick-word = held-tick p.store now.lists held
 
   ticks-here : p.step / p.period ≡ now.lists.tick
-  ticks-here = (λ i. w.stands.steps i / w.stands.period i) ∙ sym ticks-now
+  ticks-here = (λ i. w.represents.steps i / w.represents.period i) ∙ sym ticks-now
 
   pub few-ticks-now : now.lists.tick ≤ most_steps
   few-ticks-now = omega (arith, ticks-now, div-le_self now.steps now.lists.period, w.valid.steps.steps)
@@ -140,13 +140,13 @@ module _ (p : Parts) (w : IsWhole p None) where
 
       on : (now.lists.keyboard ≡ []) ⊎ (now.type_ahead ≡ []) → ⊥
       on (inl queue) = first-waits Keyboard word is some queue
-      on (inr empty) = typed p.tty (w.stands.type_ahead ∙ empty) byte
+      on (inr empty) = typed p.tty (w.represents.type_ahead ∙ empty) byte
 
   pub serves-none : get_or p.store 107 0 ≡ 0 → get_or p.store 106 0 ≡ 0 → ServesNone now
   serves-none out keys = record { output = none-waits p.store now.lists Output held out; keyboard = inl (none-waits p.store now.lists Keyboard held keys) }
 
   pub serves-nobody : get_or p.store 107 0 ≡ 0 → is_some (slice_get p.tty 0) ≡ false → ServesNone now
-  serves-nobody out none = record { output = none-waits p.store now.lists Output held out; keyboard = inr (sym w.stands.type_ahead ∙ no-byte p.tty none) }
+  serves-nobody out none = record { output = none-waits p.store now.lists Output held out; keyboard = inr (sym w.represents.type_ahead ∙ no-byte p.tty none) }
 
   -- ---- all of them
 
@@ -155,6 +155,6 @@ module _ (p : Parts) (w : IsWhole p None) where
   quiet-all m none keys clock = record {
     output = none.output;
     keyboard = none.keyboard;
-    keys = subst (ComeAfter (now.steps + m)) w.stands.keys (subst (λ n. ComeAfter (n + m) (still_to_come p.keys)) w.stands.steps keys);
-    clock = subst (λ n. AwaitsTick n now.lists) (λ i. (w.stands.steps i + m) / w.stands.period i) clock;
+    keys = subst (ComeAfter (now.steps + m)) w.represents.keys (subst (λ n. ComeAfter (n + m) (still_to_come p.keys)) w.represents.steps keys);
+    clock = subst (λ n. AwaitsTick n now.lists) (λ i. (w.represents.steps i + m) / w.represents.period i) clock;
   }

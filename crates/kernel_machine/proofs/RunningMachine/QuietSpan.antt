@@ -29,7 +29,7 @@ use Rattle.kernel_machine.proofs.KernelSteps.StoredWords.{HasStore, store-holds}
 use Rattle.kernel_machine.proofs.KernelSteps.QuietDevices.{ticked-store, ticks_to}
 use Rattle.kernel_machine.specs.RunningMachine.Machine.{IsWhole, kernel_of}
 use Rattle.kernel_machine.specs.RunningMachine.Runs.{AreQuiet, HasPassed, IsOnWay, counted}
-use Rattle.kernel_machine.proofs.RunningMachine.LeftParts.{stands-changed}
+use Rattle.kernel_machine.proofs.RunningMachine.LeftParts.{represents-changed}
 use Rattle.kernel_machine.proofs.RunningMachine.OneMachine.{stop-of}
 use Rattle.kernel_machine.proofs.RunningMachine.RunParts.{are-quiet, none-quiet, run-zero, run-first}
 
@@ -37,23 +37,23 @@ use Rattle.kernel_machine.proofs.RunningMachine.RunParts.{are-quiet, none-quiet,
 passed-by : (n : ℕ) (k j : Kernel) (p : Parts) → run n k ≡ quietly j → RepresentsKernel p j → IsValid j → j.stop ≡ None → HasPassed n k p
 passed-by n k j p e st h goes =
     let same : (run n k).kernel ≡ j = ap (λ (x : Stepped). x.kernel) e in
-    record { quiet = e ∙ ap quietly (sym same); stands = subst (RepresentsKernel p) (sym same) st; valid = subst IsValid (sym same) h; goes = ap (λ (x : Kernel). x.stop) same ∙ goes }
+    record { quiet = e ∙ ap quietly (sym same); represents = subst (RepresentsKernel p) (sym same) st; valid = subst IsValid (sym same) h; goes = ap (λ (x : Kernel). x.stop) same ∙ goes }
 
 -- none is taken
 pub passed-none : (p : Parts) (w : IsWhole p None) (n : ℕ) → n ≡ 0 → HasPassed n (kernel_of p None) p
 passed-none p w n none =
     let k : Kernel = kernel_of p None in
-    passed-by n k k p (ap (λ m. run m k) none ∙ run-zero k) w.stands w.valid (stop-of p None)
+    passed-by n k k p (ap (λ m. run m k) none ∙ run-zero k) w.represents w.valid (stop-of p None)
 
 -- the steps and the ticks are counted
-pub stands-counted : (p : Parts) (k : Kernel) → RepresentsKernel p k → (m : ℕ) → RepresentsKernel (counted m p) (passed m k)
-stands-counted p k st m =
+pub represents-counted : (p : Parts) (k : Kernel) → RepresentsKernel p k → (m : ℕ) → RepresentsKernel (counted m p) (passed m k)
+represents-counted p k st m =
     let n : ℕ = (k.steps + m) / k.lists.period in
     let s : List ℕ = set p.store 108 n in
     let here : HasStore p.store k = record { valid = st.keeper.lists.valid; image = st.image; plain = st.plain } in
     let there : HasStore s (ticks_to n k) = ticked-store p.store k here n in
     let holds : HoldsLists s (with_tick n k.lists) = store-holds s (ticks_to n k) there in
-    let stands : RepresentsKernel (record p { store = s; step = p.step + m }) (passed m k) =
+    let represents : RepresentsKernel (record p { store = s; step = p.step + m }) (passed m k) =
     record {
       marks = st.marks ∙ st.keeper.lists.size ∙ sym holds.size;
       keeper = record {
@@ -73,7 +73,7 @@ stands-counted p k st m =
       shell = st.shell;
       pipes = st.pipes;
     } in
-    subst (λ z. RepresentsKernel (record p { store = set p.store 108 z; step = p.step + m }) (passed m k)) (λ i. (sym st.steps i + m) / sym st.period i) stands
+    subst (λ z. RepresentsKernel (record p { store = set p.store 108 z; step = p.step + m }) (passed m k)) (λ i. (sym st.steps i + m) / sym st.period i) represents
 
 -- ---- nobody runs
 
@@ -83,8 +83,8 @@ module _ (p : Parts) (w : IsWhole p None) where
 
   pub passed-idle : (m : ℕ) → now.lists.running ≡ 0 → IsQuietFor m now → p.step + m ≤ most_steps → HasPassed m now (counted m p)
   passed-idle m none q few =
-      passed-by m now (passed m now) (counted m p) (idle-run m (image now) now (valid-ready now w.valid (stop-of p None)) none q) (stands-counted p now w.stands m)
-      (idle-valid m now w.valid (stop-of p None) none (omega (arith, few, w.stands.steps)) q) (stop-of p None)
+      passed-by m now (passed m now) (counted m p) (idle-run m (image now) now (valid-ready now w.valid (stop-of p None)) none q) (represents-counted p now w.represents m)
+      (idle-valid m now w.valid (stop-of p None) none (omega (arith, few, w.represents.steps)) q) (stop-of p None)
 
   -- nobody runs behind them
   pub idle-behind : (m : ℕ) → now.lists.running ≡ 0 → IsQuietFor m now → (run m now).kernel.lists.running ≡ 0
@@ -111,13 +111,13 @@ on-way-first p w m guest quiet =
     }
 
 -- the store and the registers that an instruction leaves
-pub stands-instruction : (p : Parts) (j : Kernel) (t : List ℕ) (r : Regs) → RepresentsKernel p j → HoldsLists t j.lists → t ≡ (instruction_of j).words → r ≡ (instruction_of j).regs → RepresentsKernel (record p { store = t; regs = r }) (after_instruction_of j)
-stands-instruction p j t r st holds words regs =
+pub represents-instruction : (p : Parts) (j : Kernel) (t : List ℕ) (r : Regs) → RepresentsKernel p j → HoldsLists t j.lists → t ≡ (instruction_of j).words → r ≡ (instruction_of j).regs → RepresentsKernel (record p { store = t; regs = r }) (after_instruction_of j)
+represents-instruction p j t r st holds words regs =
     let left : Regs = (instruction_of j).regs in
     let q : Parts = record p { store = t; regs = r } in
     let size : length t ≡ length p.store = holds.size ∙ sym st.keeper.lists.size in
     let one : RepresentsKernel q (record (with_store t j.lists j) { regs = left }) =
-    stands-changed p j st t t p.kinds r j.lists [] left j.stop size (changed-none t j.lists holds) st.keeper.knows refl regs (refl) in
+    represents-changed p j st t t p.kinds r j.lists [] left j.stop size (changed-none t j.lists holds) st.keeper.knows refl regs (refl) in
     subst (λ z. RepresentsKernel q (record (with_store z j.lists j) { regs = left })) words one
 
 module _ (k : Kernel) (n m : ℕ) (p : Parts) (way : IsOnWay k n (suc m) p) (few : k.steps + (n + suc m) ≤ most_steps) where
@@ -126,7 +126,7 @@ module _ (k : Kernel) (n m : ℕ) (p : Parts) (way : IsOnWay k n (suc m) p) (few
 
   -- the instruction is the one of the store and the registers
   pub instruction-here : instruction (is_owned here.lists) p.store p.regs ≡ instruction_of here
-  instruction-here = λ i. instruction (is_owned here.lists) (image-list p.store here way.passed.stands.image i) (way.passed.stands.regs i)
+  instruction-here = λ i. instruction (is_owned here.lists) (image-list p.store here way.passed.represents.image i) (way.passed.represents.regs i)
 
   module _ (next : (instruction_of here).outcome ≡ Next) where
     abbrev there : Kernel
@@ -157,7 +157,7 @@ module _ (k : Kernel) (n m : ℕ) (p : Parts) (way : IsOnWay k n (suc m) p) (few
         let full : IsValid there =
         guest-valid here way.passed.valid way.passed.goes way.guest next (omega (arith, few, way.steps)) first in
         record {
-          passed = passed-by (n + 1) k there (counted 1 q) more-steps (stands-counted q (after_instruction_of here) (stands-instruction p here t r way.passed.stands holds words regs) 1) full way.passed.goes;
+          passed = passed-by (n + 1) k there (counted 1 q) more-steps (represents-counted q (after_instruction_of here) (represents-instruction p here t r way.passed.represents holds words regs) 1) full way.passed.goes;
           guest = ap (λ (x : Kernel). is_guest_id x.lists.running) same ∙ way.guest;
           quiet = λ some. subst (IsQuietFor m) (sym same) (guest-left here ready m there way.guest next quiet one-step);
           steps = ap (λ (x : Kernel). x.steps) same ∙ omega (arith, way.steps);

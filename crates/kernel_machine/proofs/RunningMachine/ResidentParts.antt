@@ -33,7 +33,7 @@ use Rattle.guest_turns.specs.GuestTurn.{numbers_of}
 use Rattle.guest_turns.proofs.RunningField.{RunsIn}
 use Rattle.kernel_machine.specs.declared.running_machine.parts.Parts.{Parts}
 use Rattle.kernel_machine.specs.RunningMachine.RepresentedKernels.{RepresentsKernel}
-use Rattle.kernel_machine.proofs.RunningMachine.PartsBeside.{stands-beside}
+use Rattle.kernel_machine.proofs.RunningMachine.PartsBeside.{represents-beside}
 use Rattle.kernel_machine.specs.KernelSteps.ResidentSteps.{after_resident, console_parts, console_step, file_step, handler_step, pipe_step, reporter_step, resident_step, serves_pipes, shell_step, with_console_lines, with_disc, with_pipes}
 use Rattle.kernel_machine.specs.KernelSteps.Stepped.{quietly, with_store}
 use Rattle.kernel_machine.proofs.KernelSteps.HandledRules.{request-runs}
@@ -42,13 +42,13 @@ use Rattle.kernel_machine.proofs.KernelSteps.RunningCaller.{runs-alone, runs-res
 use Rattle.kernel_machine.proofs.KernelSteps.TurnKept.{console-turned}
 use Rattle.kernel_machine.proofs.KernelSteps.TurnRules.{runs-shell as shell-runs}
 use Rattle.kernel_machine.specs.RunningMachine.Leaves.{Leaves, RunsNumber}
-use Rattle.kernel_machine.proofs.RunningMachine.LeftParts.{stands-changed}
+use Rattle.kernel_machine.proofs.RunningMachine.LeftParts.{represents-changed}
 
 -- a turn leaves this of the store and the keeper, and nothing else of the parts
 pub leaves-resident : (q : Parts) (j : Kernel) → RepresentsKernel q j → (t : List ℕ) (marks : List Bool) (o n : Outside) (m : ResidentTurn) → IsResidentTurn t (MarksAll marks) o n m → length m.words ≡ length q.store → length marks ≡ length q.kinds
     → m.lists.period ≡ j.lists.period → Leaves (record q { store = t; kinds = marks }) o n (after_resident m j)
 leaves-resident q j st t marks o n m is size room period = record {
-  stands = stands-changed q j st m.words t marks q.regs m.lists m.plain j.regs j.stop size is.lists is.knows room st.regs period;
+  represents = represents-changed q j st m.words t marks q.regs m.lists m.plain j.regs j.stop size is.lists is.knows room st.regs period;
   bytes = is.bytes;
   notes = is.notes;
 }
@@ -118,16 +118,16 @@ module _ (p : Parts) (k : Kernel) (st : RepresentsKernel p k) where
       pub leaves-shell : length marks ≡ length p.kinds → Leaves (record p { store = t; kinds = marks; shell = shell; disc = disc }) o n (shell_step k)
       leaves-shell room =
           let x : ShellTurn = shell_turn (image k) k.lists k.shell k.disc in
-          let l : Lists = x.standing.lists in
+          let l : Lists = x.store.lists in
           let rest = turn-rest (image k) k.lists k.shell k.disc in
-          let size : length t ≡ length p.store = omega (arith, now-shell.stands.keeper.lists.size, ap (λ (m : Lists). m.size) rest, st.keeper.lists.size) in
-          let same : RepresentsKernel (record p { shell = shell; disc = disc }) (record k { shell = x.shell; disc = x.disc }) = stands-beside p k st st.console now-shell.shell now-shell.disc st.pipes in
+          let size : length t ≡ length p.store = omega (arith, now-shell.represents.keeper.lists.size, ap (λ (m : Lists). m.size) rest, st.keeper.lists.size) in
+          let same : RepresentsKernel (record p { shell = shell; disc = disc }) (record k { shell = x.shell; disc = x.disc }) = represents-beside p k st st.console now-shell.shell now-shell.disc st.pipes in
           let left =
-          stands-changed (record p { shell = shell; disc = disc }) (record k { shell = x.shell; disc = x.disc }) same t t marks p.regs l [] k.regs (cond x.finished (Some Finish) k.stop) size (changed-none t l now-shell.stands.keeper.lists)
-          now-shell.stands.keeper.knows room st.regs (ap (λ (m : Lists). m.period) rest)
+          represents-changed (record p { shell = shell; disc = disc }) (record k { shell = x.shell; disc = x.disc }) same t t marks p.regs l [] k.regs (cond x.finished (Some Finish) k.stop) size (changed-none t l now-shell.represents.keeper.lists)
+          now-shell.represents.keeper.knows room st.regs (ap (λ (m : Lists). m.period) rest)
           in
           record {
-            stands = subst (λ w. RepresentsKernel (record p { store = t; kinds = marks; shell = shell; disc = disc }) (record (with_store w l k) { shell = x.shell; disc = x.disc; stop = cond x.finished (Some Finish) k.stop })) now-shell.stands.words left;
+            represents = subst (λ w. RepresentsKernel (record p { store = t; kinds = marks; shell = shell; disc = disc }) (record (with_store w l k) { shell = x.shell; disc = x.disc; stop = cond x.finished (Some Finish) k.stop })) now-shell.represents.words left;
             bytes = now-shell.bytes;
             notes = now-shell.notes;
           }
@@ -170,7 +170,7 @@ module _ (p : Parts) (k : Kernel) (st : RepresentsKernel p k) where
           (subst (λ s. IsResidentTurn t (MarksAll marks) o n (turn_done s (all_parts id (begun p.store k.lists p.console line)))) store-is is)
           in
           let lines : RepresentsKernel (record p { console = console; shell = shell }) (with_console_lines (console_parts k) k) =
-          stands-beside p k st (now ∙ ap (λ (g : Progress). g.console) parts-here) (put ∙ (λ i. record (st.shell i) { line = (parts-here i).command })) st.disc st.pipes
+          represents-beside p k st (now ∙ ap (λ (g : Progress). g.console) parts-here) (put ∙ (λ i. record (st.shell i) { line = (parts-here i).command })) st.disc st.pipes
           in
           leaves-resident (record p { console = console; shell = shell }) (with_console_lines (console_parts k) k) lines t marks o n (turn_done (image k) (console_parts k)) here store-size room
           (ap (λ x. x.period) (console-turned k r.can r.is).runs.numbers)
@@ -191,7 +191,7 @@ module _ (p : Parts) (k : Kernel) (st : RepresentsKernel p k) where
         let here : IsResidentTurn t (MarksAll marks) o n m = subst (IsResidentTurn t (MarksAll marks) o n) (λ i. file_turn (st.disc i) (store-is i) k.lists) is in
         let new : Disc = disc_after_turn k.disc (image k) k.lists in
         subst (λ b. Leaves (record p { store = t; kinds = marks; disc = disc }) o n (cond b (pipe_step k) (file_step k))) (sym none)
-        (leaves-resident (record p { disc = disc }) (with_disc new k) (stands-beside p k st st.console st.shell (after ∙ (λ i. disc_after_turn (st.disc i) (store-is i) k.lists)) st.pipes) t marks o n m here
+        (leaves-resident (record p { disc = disc }) (with_disc new k) (represents-beside p k st st.console st.shell (after ∙ (λ i. disc_after_turn (st.disc i) (store-is i) k.lists)) st.pipes) t marks o n m here
         (ap length (request-words (file_service k.disc) (image k) k.lists) ∙ store-size) room
         (ap (λ x. x.period) (request-runs (numbers_of k.lists) k.lists (now-runs 4 (λ e. cc) refl r) (file_service k.disc) (image k)).numbers))
 
@@ -202,6 +202,6 @@ module _ (p : Parts) (k : Kernel) (st : RepresentsKernel p k) where
         let here : IsResidentTurn t (MarksAll marks) o n m = subst (IsResidentTurn t (MarksAll marks) o n) (λ i. pipe_turn (st.pipes i) (store-is i) k.lists) is in
         let new : List (Option Pipe) = pipes_after_turn k.pipes (image k) k.lists in
         subst (λ b. Leaves (record p { store = t; kinds = marks; pipes = pipes }) o n (cond b (pipe_step k) (file_step k))) (sym some)
-        (leaves-resident (record p { pipes = pipes }) (with_pipes new k) (stands-beside p k st st.console st.shell st.disc (after ∙ (λ i. pipes_after_turn (st.pipes i) (store-is i) k.lists))) t marks o n m here
+        (leaves-resident (record p { pipes = pipes }) (with_pipes new k) (represents-beside p k st st.console st.shell st.disc (after ∙ (λ i. pipes_after_turn (st.pipes i) (store-is i) k.lists))) t marks o n m here
         (ap length (request-words (pipe_service k.pipes) (image k) k.lists) ∙ store-size) room
         (ap (λ x. x.period) (request-runs (numbers_of k.lists) k.lists (now-runs 4 (λ e. cc) refl r) (pipe_service k.pipes) (image k)).numbers))

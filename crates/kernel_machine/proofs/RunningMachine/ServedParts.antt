@@ -28,23 +28,23 @@ use Rattle.kernel_machine.specs.KernelSteps.Stepped.{quietly, with_store}
 use Rattle.kernel_machine.proofs.KernelSteps.DevicesKept.{key-numbers, output-numbers, tick-numbers}
 use Rattle.kernel_machine.proofs.KernelSteps.DispatchKept.{dispatch-numbers}
 use Rattle.kernel_machine.specs.RunningMachine.Leaves.{CanServe, Leaves}
-use Rattle.kernel_machine.proofs.RunningMachine.LeftParts.{leaves-none, stands-changed}
+use Rattle.kernel_machine.proofs.RunningMachine.LeftParts.{leaves-none, represents-changed}
 
 -- the parts stand for the kernel with these lists, whose plain words were written over those of the image
-pub stands-settled : (p : Parts) (k : Kernel) → RepresentsKernel p k → (t : List ℕ) (marks : List Bool) (regs : Regs) (l : Lists) (plain : Pairs) (r : Regs) → IsChanged p.store t l plain → Knows (MarksAll marks) l → length marks ≡ length p.kinds
+pub represents-settled : (p : Parts) (k : Kernel) → RepresentsKernel p k → (t : List ℕ) (marks : List Bool) (regs : Regs) (l : Lists) (plain : Pairs) (r : Regs) → IsChanged p.store t l plain → Knows (MarksAll marks) l → length marks ≡ length p.kinds
     → regs ≡ r → l.period ≡ k.lists.period → RepresentsKernel (record p { store = t; regs = regs; kinds = marks }) (record (settled plain k l) { regs = r })
 unfolding settled
-stands-settled p k st t marks regs l plain r c knows room e same =
+represents-settled p k st t marks regs l plain r c knows room e same =
     subst (λ z. RepresentsKernel (record p { store = t; regs = regs; kinds = marks }) (record (with_store (written plain z) l k) { regs = r })) (image-list p.store k st.image)
-    (stands-changed p k st p.store t marks regs l plain r k.stop refl c knows room e same)
+    (represents-changed p k st p.store t marks regs l plain r k.stop refl c knows room e same)
 
 -- ---- a device
 
 module _ (p : Parts) (k : Kernel) (st : RepresentsKernel p k) where
-  pub stands-served : (t : List ℕ) (m : Served) → IsServed p.store t k.lists m → m.lists.period ≡ k.lists.period → RepresentsKernel (record p { store = t }) (served k m).kernel
+  pub represents-served : (t : List ℕ) (m : Served) → IsServed p.store t k.lists m → m.lists.period ≡ k.lists.period → RepresentsKernel (record p { store = t }) (served k m).kernel
   unfolding settled
-  stands-served t m is same =
-      let found = stands-settled p k st t p.kinds p.regs m.lists [] k.regs is.lists (knows-same (MarksAll p.kinds) k.lists m.lists is.same st.keeper.knows) refl st.regs same in
+  represents-served t m is same =
+      let found = represents-settled p k st t p.kinds p.regs m.lists [] k.regs is.lists (knows-same (MarksAll p.kinds) k.lists m.lists is.same st.keeper.knows) refl st.regs same in
       record {
         keeper = found.keeper;
         marks = found.marks;
@@ -62,8 +62,8 @@ module _ (p : Parts) (k : Kernel) (st : RepresentsKernel p k) where
       }
 
   -- other bytes are typed ahead
-  pub stands-typed : (typed ahead : List ℕ) → typed ≡ ahead → RepresentsKernel (record p { tty = typed }) (record k { type_ahead = ahead })
-  stands-typed typed ahead e = record {
+  pub represents-typed : (typed ahead : List ℕ) → typed ≡ ahead → RepresentsKernel (record p { tty = typed }) (record k { type_ahead = ahead })
+  represents-typed typed ahead e = record {
     keeper = st.keeper;
     marks = st.marks;
     image = record { size = st.image.size; holds = st.image.holds; plain = st.image.plain };
@@ -106,7 +106,7 @@ module _ (p : Parts) (k : Kernel) (st : RepresentsKernel p k) where
       → Leaves (record p { store = t }) o n (tick k)
   leaves-tick t o n can due is shown notes =
       let now : eqb (k.steps % k.lists.period) 0 ≡ true = eq-eqb (k.steps % k.lists.period) 0 (sym same-time ∙ due) in
-      subst (Leaves (record p { store = t }) o n) (sym (tick-due now)) (record { stands = stands-served t (ticked k.lists) is (ticked-same can now); bytes = shown ∙ sym (append-nil o.shown); notes = notes })
+      subst (Leaves (record p { store = t }) o n) (sym (tick-due now)) (record { represents = represents-served t (ticked k.lists) is (ticked-same can now); bytes = shown ∙ sym (append-nil o.shown); notes = notes })
 
   pub leaves-no_tick : (o : Outside) → (p.step % p.period ≡ 0 → ⊥) → Leaves p o o (tick k)
   leaves-no_tick o none = subst (Leaves p o o) (sym (tick-not (ne_eqb (k.steps % k.lists.period) 0 (λ z. none (same-time ∙ z))))) (leaves-none p o k st)
@@ -126,7 +126,7 @@ module _ (p : Parts) (k : Kernel) (st : RepresentsKernel p k) where
       → NotesAll o.noted n.noted o.failed n.failed (finished k.lists).events → Leaves (record p { store = t }) o n (output k)
   unfolding output
   leaves-output t o n can is shown notes = record {
-    stands = stands-served t (finished k.lists) is (finished-same can);
+    represents = represents-served t (finished k.lists) is (finished-same can);
     bytes = shown ∙ ap (λ z. o.shown ++ printed z k.lists.output) (image-list p.store k st.image);
     notes = notes;
   }
@@ -149,10 +149,10 @@ module _ (p : Parts) (k : Kernel) where
   leaves-key t typed o n st can same is left shown notes =
       let j : Kernel = with_key_typed k in
       let ahead : p.tty ≡ j.type_ahead = st.type_ahead in
-      let here = stands-typed p j st typed (left_typed j.type_ahead j.lists.keyboard) (left ∙ ap (λ z. left_typed z j.lists.keyboard) ahead) in
+      let here = represents-typed p j st typed (left_typed j.type_ahead j.lists.keyboard) (left ∙ ap (λ z. left_typed z j.lists.keyboard) ahead) in
       let m : Served = met j.type_ahead j.lists in
       record {
-        stands = stands-served (record p { tty = typed }) (record j { type_ahead = left_typed j.type_ahead j.lists.keyboard }) here t m (subst (λ z. IsServed p.store t j.lists (met z j.lists)) ahead is) (met-same can same);
+        represents = represents-served (record p { tty = typed }) (record j { type_ahead = left_typed j.type_ahead j.lists.keyboard }) here t m (subst (λ z. IsServed p.store t j.lists (met z j.lists)) ahead is) (met-same can same);
         bytes = shown ∙ sym (append-nil o.shown);
         notes = subst (λ z. NotesAll o.noted n.noted o.failed n.failed (met z j.lists).events) ahead notes;
       }
@@ -182,8 +182,8 @@ module _ (p : Parts) (k : Kernel) (st : RepresentsKernel p k) where
       let now : IsDispatched p.store t k.lists k.regs regs (MarksAll marks) o.noted n.noted o.failed n.failed = subst (λ r. IsDispatched p.store t k.lists r regs (MarksAll marks) o.noted n.noted o.failed n.failed) st.regs is in
       subst (λ z. Leaves (record p { store = t; regs = regs; kinds = marks }) o n (switched k (dispatched z k.lists k.regs))) (image-list p.store k st.image)
       (record {
-        stands =
-            stands-settled p k st t marks regs (dispatched p.store k.lists k.regs).lists (dispatched p.store k.lists k.regs).plain (dispatched p.store k.lists k.regs).regs now.lists now.knows room now.regs switched-same;
+        represents =
+            represents-settled p k st t marks regs (dispatched p.store k.lists k.regs).lists (dispatched p.store k.lists k.regs).plain (dispatched p.store k.lists k.regs).regs now.lists now.knows room now.regs switched-same;
         bytes = shown ∙ sym (append-nil o.shown);
         notes = now.notes;
       })

@@ -49,8 +49,8 @@ module _ (k : Kernel) (h : IsValid k) (goes : k.stop ≡ None) where
   }
 
 -- one step more is counted
-pub stands-step : (p : Parts) (k : Kernel) (n : ℕ) → RepresentsKernel p k → n ≡ p.step + 1 → RepresentsKernel (record p { step = n }) (with_step k)
-stands-step p k n st e = record {
+pub represents-step : (p : Parts) (k : Kernel) (n : ℕ) → RepresentsKernel p k → n ≡ p.step + 1 → RepresentsKernel (record p { step = n }) (with_step k)
+represents-step p k n st e = record {
   keeper = st.keeper;
   marks = st.marks;
   image = record { size = st.image.size; holds = st.image.holds; plain = st.image.plain };

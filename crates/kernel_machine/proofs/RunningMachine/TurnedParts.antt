@@ -28,7 +28,7 @@ use Rattle.kernel_machine.proofs.KernelSteps.TurnKept.{recorded-numbers}
 use Rattle.kernel_machine.proofs.KernelSteps.TurnRules.{recordable}
 use Rattle.kernel_machine.proofs.KernelSteps.TurnWays.{IsRecorded}
 use Rattle.kernel_machine.specs.RunningMachine.Leaves.{Leaves, RunsGuest}
-use Rattle.kernel_machine.proofs.RunningMachine.LeftParts.{stands-changed}
+use Rattle.kernel_machine.proofs.RunningMachine.LeftParts.{represents-changed}
 
 -- where a turn does not end with a fault that is recorded
 pub not-recorded : (e : TurnEnd) (m : Turned) → ((f : Fault) → e ≡ Faults f → is_recorded m.lists f ≡ false) → reported_by e m ≡ m
@@ -71,7 +71,7 @@ module _ (p : Parts) (k : Kernel) (st : RepresentsKernel p k) (task : ℕ) (g : 
       leaves-turn =
           subst (λ x. Leaves (record p { store = t; regs = regs; kinds = marks }) o n (after_turn k x)) (sym stays)
           (record {
-            stands = stands-changed p k st m.words t marks regs m.lists m.plain m.regs (stop_by k.lists.running m.ends) size-here now.lists now.knows room now.regs (ap (λ x. x.period) numbers-here);
+            represents = represents-changed p k st m.words t marks regs m.lists m.plain m.regs (stop_by k.lists.running m.ends) size-here now.lists now.knows room now.regs (ap (λ x. x.period) numbers-here);
             bytes = now.bytes;
             notes = now.notes;
           })
@@ -107,8 +107,8 @@ module _ (p : Parts) (k : Kernel) (st : RepresentsKernel p k) (task : ℕ) (g : 
           let changed : IsChanged m.words u (recorded f m.lists) m.plain = changed-then m.words t u m.lists (recorded f m.lists) m.plain now.lists here.lists (λ a none. sym (here.same a) ∙ none) in
           subst (λ x. Leaves (record p { store = u; regs = regs; kinds = marks }) o noted (after_turn k x)) (sym records-it)
           (record {
-            stands =
-                stands-changed p k st m.words u marks regs (recorded f m.lists) m.plain m.regs None size-here changed (knows-same (MarksAll marks) m.lists (recorded f m.lists) here.same now.knows) room now.regs
+            represents =
+                represents-changed p k st m.words u marks regs (recorded f m.lists) m.plain m.regs None size-here changed (knows-same (MarksAll marks) m.lists (recorded f m.lists) here.same now.knows) room now.regs
                 (ap (λ x. x.period) (recorded-numbers f m.lists ∙ numbers-here));
             bytes = shown ∙ now.bytes;
             notes = notes-then o.noted n.noted noted.noted o.failed n.failed noted.failed m.events (recorded_events f m.lists) now.notes new;

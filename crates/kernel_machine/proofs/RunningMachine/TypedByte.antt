@@ -35,8 +35,8 @@ valid-typed byte k h =
       steps = record { steps = h.steps.steps; keys = h.steps.keys };
     }
 
-stands-typed : (byte : ℕ) (p : Parts) (tty : List ℕ) (k : Kernel) → RepresentsKernel p k → tty ≡ with_typed byte p.tty → RepresentsKernel (record p { tty = tty }) (with_byte_typed byte k)
-stands-typed byte p tty k h is = record {
+represents-typed : (byte : ℕ) (p : Parts) (tty : List ℕ) (k : Kernel) → RepresentsKernel p k → tty ≡ with_typed byte p.tty → RepresentsKernel (record p { tty = tty }) (with_byte_typed byte k)
+represents-typed byte p tty k h is = record {
   keeper = h.keeper;
   marks = h.marks;
   image = record { size = h.image.size; holds = h.image.holds; plain = h.image.plain };
@@ -61,6 +61,6 @@ whole-typed byte p tty stop w is =
     let k : Kernel = kernel_of p stop in
     let same : kernel_of (record p { tty = tty }) stop ≡ with_byte_typed byte k = kernel-typed byte p tty stop is in
     record {
-      stands = subst (RepresentsKernel (record p { tty = tty })) (sym same) (stands-typed byte p tty k w.stands is);
+      represents = subst (RepresentsKernel (record p { tty = tty })) (sym same) (represents-typed byte p tty k w.represents is);
       valid = subst IsValid (sym same) (valid-typed byte k w.valid);
     }

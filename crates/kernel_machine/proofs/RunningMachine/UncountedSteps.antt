@@ -31,7 +31,7 @@ module _ (k : Kernel) (n m i : ℕ) (p : Parts) (way : IsOnWay k n m (counted i 
   uncounted-stays t r same = subst (IsOnWay k n m) (λ j. counted i (record p { store = sym same.0 j; regs = sym same.1 j })) way
 
   tick-here : (reached n k).lists.tick ≡ (p.step + i) / p.period
-  tick-here = way.passed.valid.ticks way.passed.goes ∙ (λ j. sym way.passed.stands.steps j / sym way.passed.stands.period j)
+  tick-here = way.passed.valid.ticks way.passed.goes ∙ (λ j. sym way.passed.represents.steps j / sym way.passed.represents.period j)
 
   -- a store that holds the lists has that tick
   pub told-here : (s : List ℕ) → HoldsLists s (reached n k).lists → get_or s 108 0 ≡ (p.step + i) / p.period
@@ -49,10 +49,10 @@ module _ (k : Kernel) (n m i : ℕ) (p : Parts) (way : IsOnWay k n m (counted i 
     way-stepped = subst (IsOnWay k n m) counted-same way
 
     pub keeper-here : HasKeeper p.store (MarksAll p.kinds) (length p.kinds) (reached n k).lists
-    keeper-here = way-stepped.passed.stands.keeper
+    keeper-here = way-stepped.passed.represents.keeper
 
     pub byte-here : p.regs.c < 256
-    byte-here = subst (λ r. r.c < 256) (sym way-stepped.passed.stands.regs) way-stepped.passed.valid.registers.byte
+    byte-here = subst (λ r. r.c < 256) (sym way-stepped.passed.represents.regs) way-stepped.passed.valid.registers.byte
 
 -- one instruction more
 module _ (k : Kernel) (n m i : ℕ) (p : Parts) (way : IsOnWay k n (suc m) (counted i p)) (told : get_or p.store 108 0 ≡ (p.step + i) / p.period) (few : k.steps + (n + suc m) ≤ most_steps) where
@@ -72,7 +72,7 @@ module _ (k : Kernel) (n m i : ℕ) (p : Parts) (way : IsOnWay k n (suc m) (coun
 module _ (k : Kernel) (n m : ℕ) (p : Parts) (way : IsOnWay k n m p) where
   pub told-first : get_or p.store 108 0 ≡ p.step / p.period
   told-first =
-      held-tick p.store (reached n k).lists way.passed.stands.keeper.lists ∙ (way.passed.valid.ticks way.passed.goes ∙ (λ j. sym way.passed.stands.steps j / sym way.passed.stands.period j))
+      held-tick p.store (reached n k).lists way.passed.represents.keeper.lists ∙ (way.passed.valid.ticks way.passed.goes ∙ (λ j. sym way.passed.represents.steps j / sym way.passed.represents.period j))
 
   pub way-uncounted : IsOnWay k (n + 0) (m - 0) (counted 0 p)
   way-uncounted =

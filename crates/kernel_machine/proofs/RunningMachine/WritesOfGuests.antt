@@ -21,9 +21,9 @@ guest-writes k high = ap (λ b. cond b (next_writes (is_owned k.lists) (image k)
 
 module _ (p : Parts) (stop : Option Stop) (w : IsWhole p stop) where
   pub byte-here : p.regs.c < 256
-  byte-here = subst (λ r. r.c < 256) (sym w.stands.regs) w.valid.registers.byte
+  byte-here = subst (λ r. r.c < 256) (sym w.represents.regs) w.valid.registers.byte
 
   pub parts-write : 5 ≤ (kernel_of p stop).lists.running → next_writes (is_owned (kernel_of p stop).lists) p.store p.regs ≡ guest_writes (kernel_of p stop)
   parts-write high =
       let k : Kernel = kernel_of p stop in
-      (λ j. next_writes (is_owned k.lists) (image-list p.store k w.stands.image j) (w.stands.regs j)) ∙ guest-writes k high
+      (λ j. next_writes (is_owned k.lists) (image-list p.store k w.represents.image j) (w.represents.regs j)) ∙ guest-writes k high

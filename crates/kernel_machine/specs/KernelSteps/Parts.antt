@@ -2,7 +2,7 @@
 use Rattle.std.specs.Prelude.{◌≡◌, ℕ, ◌+◌, ◌%◌, ◌==◌, None, if◌then◌else◌}
 use Rattle.word_store.specs.declared.registers.Regs.{Regs}
 use Rattle.ram_disc.specs.Disc.{IsDisc}
-use Rattle.kernel_model.specs.KernelRecord.Between.{FirstRuns, RegistersStand, ResidentsStand}
+use Rattle.kernel_model.specs.KernelRecord.Between.{AreValidRegisters, AreValidResidents, FirstRuns}
 use Rattle.kernel_model.specs.KernelRecord.Image.{HasPlainWords}
 use Rattle.kernel_model.specs.KernelRecord.Kernel.{Kernel}
 use Rattle.kernel_model.specs.KernelRecord.Lists.{Lists}
@@ -15,7 +15,7 @@ pub record RunsFirst (l : Lists) (r : Regs) : Type 0 where
   -- which task runs
   pub runs : FirstRuns l
   -- its registers
-  pub registers : RegistersStand l r
+  pub registers : AreValidRegisters l r
 
 -- what a turn asks
 pub record CanTurn (k : Kernel) : Type 0 where
@@ -26,7 +26,7 @@ pub record CanTurn (k : Kernel) : Type 0 where
   -- the first ready task runs
   pub first : RunsFirst k.lists k.regs
   -- the rules of what residents keep
-  pub rules : ResidentsStand k
+  pub rules : AreValidResidents k
 
 -- what no part of a step changes
 pub record IsSameMachine (k j : Kernel) : Type 0 where

@@ -28,7 +28,7 @@ after_resident m k = record { kernel = with_store (written m.plain m.words) m.li
 -- at the command that finishes the machine it stops
 abbrev pub after_shell : ShellTurn → Kernel → Stepped
 after_shell x k = record {
-  kernel = record (with_store x.standing.words x.standing.lists k) { shell = x.shell; disc = x.disc; stop = if x.finished then Some Finish else k.stop };
+  kernel = record (with_store x.store.words x.store.lists k) { shell = x.shell; disc = x.disc; stop = if x.finished then Some Finish else k.stop };
   bytes = x.bytes;
   events = x.events;
 }

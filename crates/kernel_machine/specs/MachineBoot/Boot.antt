@@ -11,7 +11,7 @@ use Rattle.kernel_model.specs.KernelRecord.Lists.{Lists}
 use Rattle.kernel_model.specs.KernelRecord.Pipes.{no_pipes}
 use Rattle.kernel_model.specs.KernelRecord.ValidTasks.{no_regs}
 use Rattle.kernel_boot.specs.BootFiles.{load_files}
-use Rattle.kernel_model.specs.KernelRecord.Standing.{Standing, standing}
+use Rattle.kernel_model.specs.KernelRecord.StoreWithLists.{StoreWithLists, store_with_lists}
 use Rattle.kernel_boot.specs.BootTasks.{start_tasks}
 use Rattle.kernel_boot.specs.EmptyKernel.{empty_lists}
 use Rattle.kernel_boot.specs.ResidentKernel.{resident_lists}
@@ -54,14 +54,14 @@ with_files lines k = do
   Ok (with_disc d k)
 
 -- the machine with these words and lists
-abbrev pub with_standing : Standing → Kernel → Kernel
-with_standing x k = with_store x.words x.lists k
+abbrev pub with_store_of : StoreWithLists → Kernel → Kernel
+with_store_of x k = with_store x.words x.lists k
 
 -- the tasks of these lines of the session are created, one after another, or the first is refused that can't be
 unfoldable pub with_tasks : List SessionLine → Kernel → Result Kernel BootRefusal
 with_tasks lines k = do
-  x ← start_tasks k.disc lines (standing (image k) k.lists)
-  Ok (with_standing x k)
+  x ← start_tasks k.disc lines (store_with_lists (image k) k.lists)
+  Ok (with_store_of x k)
 
 -- the files of all lines come first, and then the tasks of all lines
 unfoldable pub with_lines : List SessionLine → Kernel → Result Kernel BootRefusal

@@ -22,7 +22,7 @@ pub record IsFresh (free : Bool) (t : Task) : Type 0 where
   -- it has a number from 1
   pub number : 1 ≤ t.id
   -- its field is not that of one that runs
-  pub stands : t.field ≡ runs → ⊥
+  pub idle : t.field ≡ runs → ⊥
   -- it has no packets, or is a resident
   pub takes : (t.queue ≡ []) ⊎ (is_guest_id t.id ≡ false)
   -- it has met no fault
@@ -64,7 +64,7 @@ EndsAs WantMemory booted = Unit {0}
 -- the parts represent the kernel, which is valid and has not stopped
 pub record IsBooted (p : Parts) (k : Kernel) : Type 0 where
   -- the parts represent the kernel
-  pub stands : RepresentsKernel p k
+  pub represents : RepresentsKernel p k
   -- it is valid
   pub valid : IsValid k
   -- the machine has not stopped

@@ -13,7 +13,7 @@ use Rattle.kernel_machine.specs.KernelSteps.Stepped.{Stepped}
 -- the code leaves what the part of the step leaves
 pub record Leaves (p : Parts) (old new : Outside) (x : Stepped) : Type 0 where
   -- the parts represent its kernel
-  pub stands : RepresentsKernel p x.kernel
+  pub represents : RepresentsKernel p x.kernel
   -- its bytes went to the output
   pub bytes : new.shown ≡ old.shown ++ x.bytes
   -- its events went to the log, or the first of them where that failed

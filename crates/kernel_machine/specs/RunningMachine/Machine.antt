@@ -42,6 +42,6 @@ with_byte_typed byte k = record k { type_ahead = with_typed byte k.type_ahead }
 -- the parts represent this kernel, which is valid, and so for no other one
 pub record IsWhole (p : Parts) (stop : Option Stop) : Type 0 where
   -- the parts represent that kernel
-  pub stands : RepresentsKernel p (kernel_of p stop)
+  pub represents : RepresentsKernel p (kernel_of p stop)
   -- which is valid
   pub valid : IsValid (kernel_of p stop)

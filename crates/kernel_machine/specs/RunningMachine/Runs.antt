@@ -17,7 +17,7 @@ pub record HasPassed (n : ℕ) (k : Kernel) (p : Parts) : Type 0 where
   -- they showed and noted nothing
   pub quiet : run n k ≡ quietly (run n k).kernel
   -- the parts represent the kernel that they left
-  pub stands : RepresentsKernel p (run n k).kernel
+  pub represents : RepresentsKernel p (run n k).kernel
   -- that kernel is valid
   pub valid : IsValid (run n k).kernel
   -- and has not stopped

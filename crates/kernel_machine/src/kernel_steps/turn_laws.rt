@@ -1,7 +1,7 @@
 // What a turn leaves.
 ghost use Rattle.std.specs.Prelude.{◌≡◌, None, true};
 ghost use Rattle.ram_disc.specs.Disc.{IsDisc};
-ghost use Rattle.kernel_model.specs.KernelRecord.Between.{ResidentsStand};
+ghost use Rattle.kernel_model.specs.KernelRecord.Between.{AreValidResidents};
 ghost use Rattle.kernel_model.specs.KernelRecord.Kernel.{Kernel};
 ghost use Rattle.kernel_model.specs.KernelRecord.Task.{is_guest_id};
 ghost use Rattle.kernel_model.specs.KernelRecord.ValidKernel.{IsValid};
@@ -32,7 +32,7 @@ pub fn turn_law()
     ensures numbers { (k : Kernel) → CanTurn k
         → numbers_of (turn k).kernel.lists ≡ numbers_of k.lists }
     ensures rules { (k : Kernel) → CanTurn k → IsDisc (turn k).kernel.disc
-        → ResidentsStand (turn k).kernel }
+        → AreValidResidents (turn k).kernel }
     ensures same { (k : Kernel) → IsSameMachine k (turn k).kernel }
     ensures keys { (k : Kernel) → HasSameKeys k (turn k).kernel }
     ensures nobody { (k : Kernel) → k.lists.running ≡ 0 → turn k ≡ quietly k }

@@ -70,7 +70,7 @@ fn want_memory(_: WantMemory) -> BootEnd
 // The machine before the lines.
 fn empty_machine(alloc: Global, session: &Session) -> Result<Parts, BootEnd>
     requires { HasKernel session.now }
-    ensures stands { MatchResult result (λ p. RepresentsKernel p (first_kernel session.now))
+    ensures represents { MatchResult result (λ p. RepresentsKernel p (first_kernel session.now))
         (λ e. e ≡ BootEnd.WantMemory) }
     ensures keys { IfOk result (λ p. p.keys.come ≡ 0) }
 {
@@ -140,7 +140,7 @@ fn put_tasks(parts: &mut Parts, lines: &[SessionLine]) -> Result<(), BootRefusal
 // Lets the first ready task run.
 fn dispatch(parts: &mut Parts)
     requires { (k : Kernel) × RepresentsKernel parts.old k × CanDispatch k.lists k.regs }
-    ensures stands { (k : Kernel) → RepresentsKernel parts.old k → CanDispatch k.lists k.regs
+    ensures represents { (k : Kernel) → RepresentsKernel parts.old k → CanDispatch k.lists k.regs
         → RepresentsKernel parts.new (dispatch k).kernel }
     ensures keys { parts.new.keys ≡ parts.old.keys }
 {

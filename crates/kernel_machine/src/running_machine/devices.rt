@@ -56,7 +56,7 @@ fn enter_key(parts: &mut Parts)
 
 /// The first packet that waits for the output device is served.
 pub(crate) fn output<L: EventLog>(parts: &mut Parts, bytes: &mut Output, log: &mut L)
-    requires stands { (k : Kernel) × RepresentsKernel parts.old k × CanDispatch k.lists k.regs }
+    requires represents { (k : Kernel) × RepresentsKernel parts.old k × CanDispatch k.lists k.regs }
     requires room_for_byte { length bytes.old < 8192 }
     ensures left { (k : Kernel) → RepresentsKernel parts.old k → CanDispatch k.lists k.regs
         → Leaves parts.new

@@ -65,7 +65,7 @@ impl Machine {
 
     /// Its parts, which represent its kernel, a valid one. The script has all its keys.
     pub fn into_parts(self) -> Parts
-        ensures stands { RepresentsKernel result self.kernel }
+        ensures represents { RepresentsKernel result self.kernel }
         ensures valid { IsValid self.kernel }
         ensures keys { result.keys.keys ≡ self.keys }
     {
@@ -74,7 +74,7 @@ impl Machine {
 
     /// Its parts, lent. They represent its kernel, a valid one. The script has all its keys.
     pub fn parts(&self) -> &Parts
-        ensures stands { RepresentsKernel result.now self.now.kernel }
+        ensures represents { RepresentsKernel result.now self.now.kernel }
         ensures valid { IsValid self.now.kernel }
         ensures keys { result.now.keys.keys ≡ self.now.keys }
     {

@@ -29,7 +29,7 @@ pub(crate) fn resident<L: EventLog>(
     bytes: &mut Output,
     log: &mut L,
 ) -> Option<Stop>
-    requires stands { (k : Kernel) × RepresentsKernel parts.old k × RunsNoGuest task k }
+    requires represents { (k : Kernel) × RepresentsKernel parts.old k × RunsNoGuest task k }
     requires empty { bytes.old ≡ [] }
     ensures turned { (k : Kernel) → RepresentsKernel parts.old k → RunsNoGuest task k
         → Leaves parts.new
@@ -56,7 +56,7 @@ pub(crate) fn resident<L: EventLog>(
 
 // The shell's turn, which may be the last.
 fn shell<L: EventLog>(parts: &mut Parts, bytes: &mut Output, log: &mut L) -> Option<Stop>
-    requires stands { (k : Kernel) × RepresentsKernel parts.old k × RunsNumber 1 k }
+    requires represents { (k : Kernel) × RepresentsKernel parts.old k × RunsNumber 1 k }
     requires empty { bytes.old ≡ [] }
     ensures turned { (k : Kernel) → RepresentsKernel parts.old k → RunsNumber 1 k
         → Leaves parts.new
@@ -82,7 +82,7 @@ fn shell<L: EventLog>(parts: &mut Parts, bytes: &mut Output, log: &mut L) -> Opt
 
 // The task that reports faults.
 fn report<L: EventLog>(parts: &mut Parts, bytes: &mut Output, log: &mut L)
-    requires stands { (k : Kernel) × RepresentsKernel parts.old k × RunsNumber 2 k }
+    requires represents { (k : Kernel) × RepresentsKernel parts.old k × RunsNumber 2 k }
     requires empty { bytes.old ≡ [] }
     ensures turned { (k : Kernel) → RepresentsKernel parts.old k → RunsNumber 2 k
         → Leaves parts.new
@@ -111,7 +111,7 @@ fn know_numbers(words: &[u32])
 
 // The console.
 fn console<L: EventLog>(parts: &mut Parts, bytes: &mut Output, log: &mut L)
-    requires stands { (k : Kernel) × RepresentsKernel parts.old k × RunsNumber 3 k }
+    requires represents { (k : Kernel) × RepresentsKernel parts.old k × RunsNumber 3 k }
     requires empty { bytes.old ≡ [] }
     ensures turned { (k : Kernel) → RepresentsKernel parts.old k → RunsNumber 3 k
         → Leaves parts.new

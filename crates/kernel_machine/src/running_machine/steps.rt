@@ -23,7 +23,7 @@ pub(crate) fn step_or_stay<L: EventLog>(
     bytes: &mut Output,
     log: &mut L,
 ) -> Option<Stop>
-    requires stands { (k : Kernel) × RepresentsKernel parts.old k × IsValid k
+    requires represents { (k : Kernel) × RepresentsKernel parts.old k × IsValid k
         × (stop ≡ k.stop) × (k.steps < most_steps) }
     requires empty { bytes.old ≡ [] }
     ensures stepped { (k : Kernel) → RepresentsKernel parts.old k → IsValid k
@@ -47,7 +47,7 @@ pub(crate) fn step_or_stay<L: EventLog>(
 
 // One step of a machine that has not stopped. The answer is why it stops in this step, if it does.
 fn step<L: EventLog>(parts: &mut Parts, bytes: &mut Output, log: &mut L) -> Option<Stop>
-    requires stands { (k : Kernel) × RepresentsKernel parts.old k × IsValid k × (k.stop ≡ None)
+    requires represents { (k : Kernel) × RepresentsKernel parts.old k × IsValid k × (k.stop ≡ None)
         × (k.steps < most_steps) }
     requires empty { bytes.old ≡ [] }
     ensures stepped { (k : Kernel) → RepresentsKernel parts.old k → IsValid k → k.stop ≡ None
@@ -70,7 +70,7 @@ fn step<L: EventLog>(parts: &mut Parts, bytes: &mut Output, log: &mut L) -> Opti
 
 // The devices, and then dispatch.
 fn serve<L: EventLog>(parts: &mut Parts, bytes: &mut Output, log: &mut L)
-    requires stands { (k : Kernel) × RepresentsKernel parts.old k × CanServe k }
+    requires represents { (k : Kernel) × RepresentsKernel parts.old k × CanServe k }
     requires room_for_byte { length bytes.old < 8192 }
     ensures served { (k : Kernel) → RepresentsKernel parts.old k → CanServe k → Leaves parts.new
         (outside bytes.old (L.noted log.old) (L.has_failed log.old))

@@ -28,7 +28,7 @@ const KERNEL_WORD: u32 = 6;
 /// The running guest's instruction, call, or end of its function, or the running resident's turn; nothing where nobody runs. The
 /// answer is why the machine stops, if it does.
 pub(crate) fn turn<L: EventLog>(parts: &mut Parts, bytes: &mut Output, log: &mut L) -> Option<Stop>
-    requires stands { (k : Kernel) × RepresentsKernel parts.old k × CanTurn k }
+    requires represents { (k : Kernel) × RepresentsKernel parts.old k × CanTurn k }
     requires empty { bytes.old ≡ [] }
     ensures turned { (k : Kernel) → RepresentsKernel parts.old k → CanTurn k
         → Leaves parts.new
@@ -49,7 +49,7 @@ pub(crate) fn turn<L: EventLog>(parts: &mut Parts, bytes: &mut Output, log: &mut
 
 // The running guest's turn. Where a task reports faults, a fault is recorded, unless it is a write into a word of the kernel's.
 fn guest<L: EventLog>(parts: &mut Parts, task: u32, bytes: &mut Output, log: &mut L) -> Option<Stop>
-    requires stands { (k : Kernel) × RepresentsKernel parts.old k × RunsGuest task k }
+    requires represents { (k : Kernel) × RepresentsKernel parts.old k × RunsGuest task k }
     requires empty { bytes.old ≡ [] }
     ensures turned { (k : Kernel) → RepresentsKernel parts.old k → RunsGuest task k
         → Leaves parts.new

@@ -13,7 +13,7 @@ use Rattle.kernel_model.specs.KernelRecord.Lists.{Lists}
 use Rattle.kernel_model.specs.KernelRecord.Owned.{owned}
 use Rattle.kernel_model.specs.KernelRecord.Task.{Task, queue_head, state_word, task_address}
 use Rattle.kernel_model.specs.KernelRecord.ValidLists.{AreValid}
-use Rattle.kernel_model.specs.KernelRecord.ValidTasks.{CoroutinesStand, IsField, IsTask}
+use Rattle.kernel_model.specs.KernelRecord.ValidTasks.{AreValidCoroutines, IsField, IsTask}
 use Rattle.kernel_model.proofs.KernelRecord.AllThings.{all-here}
 use Rattle.kernel_model.proofs.KernelRecord.ChainSplits.{address-between, has_task-between}
 use Rattle.kernel_model.proofs.KernelRecord.ChangedLists.{changed-then, exchange-owned, one_task-owned, owners-exchanged, running-changed}
@@ -72,7 +72,7 @@ module _ (s t : List ℕ) (l : Lists) (front : List Task) (c : Task) (back : Lis
 
   valid-state : AreValid resumed_lists
   valid-state =
-      let k : CoroutinesStand l c = all-here (CoroutinesStand l) front c back (subst (AllByRecursion (CoroutinesStand l)) is h.valid.coroutines) in
+      let k : AreValidCoroutines l c = all-here (AreValidCoroutines l) front c back (subst (AllByRecursion (AreValidCoroutines l)) is h.valid.coroutines) in
       same_task-valid l front back c (started c) h.valid is (record { id = refl; address = refl; priority = refl; queue = refl; coroutines = refl })
       (started-task l c (all-here (IsTask l) front c back (subst (AllByRecursion (IsTask l)) is h.valid.tasks.each)))
       (record { each = k.each; members = k.members; distinct = k.distinct })

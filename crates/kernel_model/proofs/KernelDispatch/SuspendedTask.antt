@@ -15,7 +15,7 @@ use Rattle.kernel_model.specs.KernelRecord.Lists.{Lists}
 use Rattle.kernel_model.specs.KernelRecord.Owned.{owned}
 use Rattle.kernel_model.specs.KernelRecord.Task.{Task, is_guest_id, queue_head, state_word, task_address, task_words}
 use Rattle.kernel_model.specs.KernelRecord.ValidLists.{AreValid}
-use Rattle.kernel_model.specs.KernelRecord.ValidTasks.{CoroutinesStand, IsField, IsTask, dead, no_regs}
+use Rattle.kernel_model.specs.KernelRecord.ValidTasks.{AreValidCoroutines, IsField, IsTask, dead, no_regs}
 use Rattle.kernel_model.proofs.KernelRecord.AllThings.{all-here}
 use Rattle.kernel_model.proofs.KernelRecord.ChangedLists.{exchange-owned, one_task-owned, owners-exchanged}
 use Rattle.kernel_model.proofs.KernelRecord.OneTask.{same_task-valid}
@@ -74,7 +74,7 @@ module _ (s t : List ℕ) (l : Lists) (front : List Task) (c : Task) (back : Lis
 
   pub valid-suspended : r.c < 256 → (is_guest_id c.id ≡ false → r ≡ no_regs) → AreValid after
   valid-suspended byte idle =
-      let k : CoroutinesStand l c = all-here (CoroutinesStand l) front c back (subst (AllByRecursion (CoroutinesStand l)) is h.valid.coroutines) in
+      let k : AreValidCoroutines l c = all-here (AreValidCoroutines l) front c back (subst (AllByRecursion (AreValidCoroutines l)) is h.valid.coroutines) in
       same_task-valid l front back c (suspended r c) h.valid is (record { id = refl; address = refl; priority = refl; queue = refl; coroutines = refl })
       (suspended-task l c r byte idle (all-here (IsTask l) front c back (subst (AllByRecursion (IsTask l)) is h.valid.tasks.each)))
       (record { each = k.each; members = k.members; distinct = k.distinct })

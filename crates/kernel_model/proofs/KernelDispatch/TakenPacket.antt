@@ -19,7 +19,7 @@ use Rattle.kernel_model.specs.KernelRecord.Lists.{Lists}
 use Rattle.kernel_model.specs.KernelRecord.Owned.{owned}
 use Rattle.kernel_model.specs.KernelRecord.Task.{Task, is_guest_id, queue_head, state_word, task_address, task_id}
 use Rattle.kernel_model.specs.KernelRecord.ValidLists.{AreValid}
-use Rattle.kernel_model.specs.KernelRecord.ValidQueues.{IsFaultPacket, IsKeyPacket, MayStand, Place, is_fault_packet, is_key_packet}
+use Rattle.kernel_model.specs.KernelRecord.ValidQueues.{IsFaultPacket, IsKeyPacket, IsValidPacket, Place, is_fault_packet, is_key_packet}
 use Rattle.kernel_model.specs.KernelRecord.ValidQueues.Place.{Clock, Keyboard, Output, Pending, Work}
 use Rattle.kernel_model.specs.KernelRecord.ValidTasks.{IsField, IsTask}
 use Rattle.kernel_model.proofs.KernelRecord.AllThings.{all-here}
@@ -73,19 +73,19 @@ module _ (s t : List ℕ) (l : Lists) (front : List Task) (c : Task) (back : Lis
   moved : RemoveExchange s (unlinked s head p.address) head [] p qs
   moved = remove-exchange s head [] p qs held
 
-  stands : MayStand l (Work c.id) p
-  stands =
-      (subst (AllByRecursion (MayStand l (Work c.id))) queue
-      (all-here (λ z. AllByRecursion (MayStand l (Work z.id)) z.queue) front c back (subst (AllByRecursion (λ z. AllByRecursion (MayStand l (Work z.id)) z.queue)) is h.valid.queues.tasks))).0
+  valid-packet : IsValidPacket l (Work c.id) p
+  valid-packet =
+      (subst (AllByRecursion (IsValidPacket l (Work c.id))) queue
+      (all-here (λ z. AllByRecursion (IsValidPacket l (Work z.id)) z.queue) front c back (subst (AllByRecursion (λ z. AllByRecursion (IsValidPacket l (Work z.id)) z.queue)) is h.valid.queues.tasks))).0
 
   queue_is : queue_of (Work c.id) l ≡ [] ++ p ∷ qs
   queue_is = ap (work_of c.id) is ∙ work_of-between front c back (subst (λ ts. IsApart (map task_id ts)) is h.valid.tasks.distinct) ∙ queue
 
   no_key : is_key_packet l p ≡ false
-  no_key = false_from_ne_true (is_key_packet l p) (λ some. (let k : IsKeyPacket (Work c.id) p = stands.key some in absurd (omega (arith, leb-true 5 c.id guest, k.place.0))))
+  no_key = false_from_ne_true (is_key_packet l p) (λ some. (let k : IsKeyPacket (Work c.id) p = valid-packet.key some in absurd (omega (arith, leb-true 5 c.id guest, k.place.0))))
 
   no_fault : is_fault_packet l p ≡ false
-  no_fault = false_from_ne_true (is_fault_packet l p) (λ some. (let k : IsFaultPacket (Work c.id) p = stands.fault some in absurd (omega (arith, leb-true 5 c.id guest, ap number_of k.place))))
+  no_fault = false_from_ne_true (is_fault_packet l p) (λ some. (let k : IsFaultPacket (Work c.id) p = valid-packet.fault some in absurd (omega (arith, leb-true 5 c.id guest, ap number_of k.place))))
 
   becomes : with_queue (Work c.id) qs l ≡ after
   becomes =

@@ -90,8 +90,8 @@ module _ (s : List ℕ) (tells : List ℕ → Type 0) (room : ℕ) (l : Lists) (
       all-here (λ z. HeldQueue s (queue_head z.address) z.queue) place.front w place.back
       (subst (AllByRecursion (λ z. HeldQueue s (queue_head z.address) z.queue)) place.is (read-lists s l k.lists.valid k.lists.size k.lists.holds).work)
 
-  pub queue-stands : HasQueue s (queue_head t)
-  queue-stands = subst (λ z. HasQueue s (queue_head z)) n.address (held-queue s (queue_head w.address) w.queue has-queue).stands
+  pub valid-queue : HasQueue s (queue_head t)
+  valid-queue = subst (λ z. HasQueue s (queue_head z)) n.address (held-queue s (queue_head w.address) w.queue has-queue).valid
 
   -- whether the store says that it takes a packet
   pub takes-told : takes_packet_by (get_or s (t + 1) 0) (state_of s t) ≡ takes_packet w

@@ -11,12 +11,12 @@ use Rattle.kernel_model.specs.KernelRecord.Owned.{OwnsApart}
 use Rattle.kernel_model.specs.KernelRecord.Task.{Task, is_guest_id}
 use Rattle.kernel_model.specs.KernelRecord.ValidBlocks.{AreData, HasBlock, last_module_word, last_resident_word}
 use Rattle.kernel_model.specs.KernelRecord.ValidLists.{AreValid}
-use Rattle.kernel_model.specs.KernelRecord.ValidQueues.{MayStand, Place}
+use Rattle.kernel_model.specs.KernelRecord.ValidQueues.{IsValidPacket, Place}
 use Rattle.kernel_model.specs.KernelRecord.ValidQueues.Place.{Clock, Keyboard, Output, Pending, Work}
-use Rattle.kernel_model.specs.KernelRecord.ValidTasks.{CoroutinesStand, IsCoroutine, IsTask}
+use Rattle.kernel_model.specs.KernelRecord.ValidTasks.{AreValidCoroutines, IsCoroutine, IsTask}
 use Rattle.kernel_model.proofs.KernelRecord.AllThings.{all-from_both, all-pieces}
 use Rattle.kernel_model.proofs.KernelRecord.QueuedPackets.{work_packets}
-use Rattle.kernel_model.proofs.KernelRecord.RulesKept.{CoroutinesStand-kept, IsTask-kept, MayStand-more, TasksStand-same}
+use Rattle.kernel_model.proofs.KernelRecord.RulesKept.{AreValidCoroutines-kept, AreValidTasks-same, IsTask-kept, IsValidPacket-more}
 
 -- a block of any size that begins there is still one
 abbrev pub KeepsBlock : List Block → List Block → ℕ → Type 0
@@ -44,16 +44,16 @@ blocks-valid l bs v f =
       numbers = record { version = v.numbers.version; size = v.numbers.size; period = v.numbers.period; residents = f.residents };
       modules = f.modules;
       tasks =
-          TasksStand-same l m refl refl
+          AreValidTasks-same l m refl refl
           (all-from_both (IsTask l) (λ t. is_guest_id t.id ≡ true → KeepsBlock l.blocks bs t.address) (IsTask m) (λ t h keeps. IsTask-kept l m t refl refl (λ all. all) keeps h) l.tasks v.tasks.each f.guests)
           v.tasks;
       coroutines =
-          all-from_both (CoroutinesStand l) (λ t. AllByRecursion (λ c. KeepsBlock l.blocks bs c.address) t.coroutines.list) (CoroutinesStand m)
-          (λ t h keeps. CoroutinesStand-kept l m t (λ all. coroutine t all keeps) h) l.tasks v.coroutines f.coroutines;
+          all-from_both (AreValidCoroutines l) (λ t. AllByRecursion (λ c. KeepsBlock l.blocks bs c.address) t.coroutines.list) (AreValidCoroutines m)
+          (λ t h keeps. AreValidCoroutines-kept l m t (λ all. coroutine t all keeps) h) l.tasks v.coroutines f.coroutines;
       queues =
           record {
             tasks =
-                all-from_both (λ t. AllByRecursion (MayStand l (Work t.id)) t.queue) (λ t. AllByRecursion (KeepsData l.blocks bs) t.queue) (λ t. AllByRecursion (MayStand m (Work t.id)) t.queue)
+                all-from_both (λ t. AllByRecursion (IsValidPacket l (Work t.id)) t.queue) (λ t. AllByRecursion (KeepsData l.blocks bs) t.queue) (λ t. AllByRecursion (IsValidPacket m (Work t.id)) t.queue)
                 (λ t all keeps. stay (Work t.id) t.queue all keeps) l.tasks v.queues.tasks (all-pieces (KeepsData l.blocks bs) (λ t. t.queue) l.tasks (all-front (KeepsData l.blocks bs) (work_packets l.tasks) devices f.packets));
             clock = stay Clock l.clock v.queues.clock (all-front (KeepsData l.blocks bs) l.clock (l.keyboard ++ (l.output ++ l.pending)) on_devices);
             keyboard = stay Keyboard l.keyboard v.queues.keyboard (all-front (KeepsData l.blocks bs) l.keyboard (l.output ++ l.pending) on_last);
@@ -84,5 +84,5 @@ blocks-valid l bs v f =
     coroutine t all keeps =
         all-from_both (IsCoroutine l) (λ c. KeepsBlock l.blocks bs c.address) (IsCoroutine m) (λ c h keep. record { block = keep c.highest h.block; high = h.high }) t.coroutines.list all keeps
 
-    stay : (at : Place) (ps : List QueuedPacket) → AllByRecursion (MayStand l at) ps → AllByRecursion (KeepsData l.blocks bs) ps → AllByRecursion (MayStand m at) ps
-    stay at ps all keeps = all-from_both (MayStand l at) (KeepsData l.blocks bs) (MayStand m at) (λ p h keep. MayStand-more l m at p refl refl keep (λ i some. some) h) ps all keeps
+    stay : (at : Place) (ps : List QueuedPacket) → AllByRecursion (IsValidPacket l at) ps → AllByRecursion (KeepsData l.blocks bs) ps → AllByRecursion (IsValidPacket m at) ps
+    stay at ps all keeps = all-from_both (IsValidPacket l at) (KeepsData l.blocks bs) (IsValidPacket m at) (λ p h keep. IsValidPacket-more l m at p refl refl keep (λ i some. some) h) ps all keeps

@@ -10,10 +10,10 @@ use Rattle.kernel_model.specs.KernelRecord.Residents.{fault_packet, key_packet}
 use Rattle.kernel_model.specs.KernelRecord.Task.{Task, is_guest_id, task_id}
 use Rattle.kernel_model.specs.KernelRecord.ValidBlocks.{HasBlock}
 use Rattle.kernel_model.specs.KernelRecord.ValidLists.{AreValid}
-use Rattle.kernel_model.specs.KernelRecord.ValidQueues.{MayStand}
+use Rattle.kernel_model.specs.KernelRecord.ValidQueues.{IsValidPacket}
 use Rattle.kernel_model.specs.KernelRecord.ValidQueues.Place.{Clock, Keyboard, Output, Pending, Work}
-use Rattle.kernel_model.specs.KernelRecord.ValidTasks.{CoroutinesStand, IsTask, PrioritiesFall}
-use Rattle.kernel_model.proofs.KernelRecord.RulesKept.{CoroutinesStand-same, IsTask-kept}
+use Rattle.kernel_model.specs.KernelRecord.ValidTasks.{AreValidCoroutines, IsTask, PrioritiesFall}
+use Rattle.kernel_model.proofs.KernelRecord.RulesKept.{AreValidCoroutines-same, IsTask-kept}
 use Rattle.kernel_model.proofs.KernelRecord.EachMember.{all-each}
 
 -- the lists with another chain and another state of the residents' two packets
@@ -28,12 +28,12 @@ pub record FitsChain (l : Lists) (ts : List Task) (x : Option ℕ) (f : Bool) : 
   pub each : AllByRecursion (IsTask l) ts
   pub distinct : IsApart (map task_id ts)
   pub order : PrioritiesFall ts
-  pub coroutines : AllByRecursion (CoroutinesStand l) ts
-  pub work : AllByRecursion (λ t. AllByRecursion (MayStand (with_chain ts x f l) (Work t.id)) t.queue) ts
-  pub clock : AllByRecursion (MayStand (with_chain ts x f l) Clock) l.clock
-  pub keyboard : AllByRecursion (MayStand (with_chain ts x f l) Keyboard) l.keyboard
-  pub output : AllByRecursion (MayStand (with_chain ts x f l) Output) l.output
-  pub pending : AllByRecursion (MayStand (with_chain ts x f l) Pending) l.pending
+  pub coroutines : AllByRecursion (AreValidCoroutines l) ts
+  pub work : AllByRecursion (λ t. AllByRecursion (IsValidPacket (with_chain ts x f l) (Work t.id)) t.queue) ts
+  pub clock : AllByRecursion (IsValidPacket (with_chain ts x f l) Clock) l.clock
+  pub keyboard : AllByRecursion (IsValidPacket (with_chain ts x f l) Keyboard) l.keyboard
+  pub output : AllByRecursion (IsValidPacket (with_chain ts x f l) Output) l.output
+  pub pending : AllByRecursion (IsValidPacket (with_chain ts x f l) Pending) l.pending
   pub key : is_some x ≡ (l.residents && not (is_queued key_packet (with_tasks ts l)))
   pub fault : f ≡ (has_task 2 l.tasks && not (is_queued fault_packet (with_tasks ts l)))
   pub running : (l.running ≡ 0) ⊎ (has_task l.running ts ≡ true)
@@ -61,7 +61,7 @@ chain-valid l ts x f v fits =
             files = fits.residents 4 refl ∙ v.tasks.files;
             reporter = λ is. v.tasks.reporter (sym (fits.residents 2 refl) ∙ is);
           };
-      coroutines = all-each (CoroutinesStand l) (CoroutinesStand m) (λ t h. CoroutinesStand-same l m t refl h) ts fits.coroutines;
+      coroutines = all-each (AreValidCoroutines l) (AreValidCoroutines m) (λ t h. AreValidCoroutines-same l m t refl h) ts fits.coroutines;
       queues =
           record {
             tasks = fits.work;

@@ -14,17 +14,17 @@ use Rattle.kernel_model.specs.KernelRecord.Owned.{owned, tasks_words}
 use Rattle.kernel_model.specs.KernelRecord.Residents.{fault_packet, key_packet}
 use Rattle.kernel_model.specs.KernelRecord.Task.{Task, is_guest_id, task_address, task_id, task_words}
 use Rattle.kernel_model.specs.KernelRecord.ValidLists.{AreValid}
-use Rattle.kernel_model.specs.KernelRecord.ValidQueues.{IsFaultPacket, IsKeyPacket, MayStand, Place}
+use Rattle.kernel_model.specs.KernelRecord.ValidQueues.{IsFaultPacket, IsKeyPacket, IsValidPacket, Place}
 use Rattle.kernel_model.specs.KernelRecord.ValidQueues.Place.{Clock, Keyboard, Output, Pending, Work}
-use Rattle.kernel_model.specs.KernelRecord.ValidTasks.{CoroutinesStand, IsTask, PrioritiesFall}
+use Rattle.kernel_model.specs.KernelRecord.ValidTasks.{AreValidCoroutines, IsTask, PrioritiesFall}
 use Rattle.kernel_model.specs.KernelRecord.Versions.{head_words_of, highest_id_of}
 use Rattle.kernel_model.proofs.KernelRecord.AllThings.{all-beside, all-between, all-from_both, all-here, any-found, any-more}
 use Rattle.kernel_model.proofs.KernelRecord.ChainChanges.{chain-valid}
 use Rattle.kernel_model.proofs.KernelRecord.ChainRules.{falls-beside, falls-insert, guest-other, has_task-other, none-times_id, times-id}
 use Rattle.kernel_model.proofs.KernelRecord.DataInside.{HasBlock-inside}
 use Rattle.kernel_model.proofs.KernelRecord.OwnerCounts.{owned-tasks, owners-task_between, owns-more, owns-without}
-use Rattle.kernel_model.proofs.KernelRecord.QueuedPackets.{fault-kept, is_queued-same, key-kept, stands_in, work_packets, work_packets-between}
-use Rattle.kernel_model.proofs.KernelRecord.RulesKept.{HasSender-kept, MayStand-kept, MayStand-more}
+use Rattle.kernel_model.proofs.KernelRecord.QueuedPackets.{fault-kept, is_on_queue, is_queued-same, key-kept, work_packets, work_packets-between}
+use Rattle.kernel_model.proofs.KernelRecord.RulesKept.{HasSender-kept, IsValidPacket-kept, IsValidPacket-more}
 use Rattle.kernel_model.proofs.KernelRecord.TaskCounts.{owners-new_task}
 use Rattle.kernel_model.proofs.KernelRecord.EachMember.{all-each}
 
@@ -40,11 +40,11 @@ module _ (l : Lists) (t : Task) (v : AreValid l) (task : IsTask l t) (guest : is
         each = all-between (IsTask l) front t back task (subst (AllByRecursion (IsTask l)) is v.tasks.each);
         distinct = λ a. subst (λ n. n ≤ 1) (sym (times-id a front t back)) (IsApart-cons t.id (map task_id (front ++ back)) none apart a);
         order = order;
-        coroutines = all-between (CoroutinesStand l) front t back coroutines (subst (AllByRecursion (CoroutinesStand l)) is v.coroutines);
+        coroutines = all-between (AreValidCoroutines l) front t back coroutines (subst (AllByRecursion (AreValidCoroutines l)) is v.coroutines);
         work =
-            all-between (λ z. AllByRecursion (MayStand m (Work z.id)) z.queue) front t back (subst (AllByRecursion (MayStand m (Work t.id))) (sym queue) tt)
-            (subst (AllByRecursion (λ z. AllByRecursion (MayStand m (Work z.id)) z.queue)) is
-            (all-each (λ z. AllByRecursion (MayStand l (Work z.id)) z.queue) (λ z. AllByRecursion (MayStand m (Work z.id)) z.queue) (λ z all. kept (Work z.id) z.queue all) l.tasks v.queues.tasks));
+            all-between (λ z. AllByRecursion (IsValidPacket m (Work z.id)) z.queue) front t back (subst (AllByRecursion (IsValidPacket m (Work t.id))) (sym queue) tt)
+            (subst (AllByRecursion (λ z. AllByRecursion (IsValidPacket m (Work z.id)) z.queue)) is
+            (all-each (λ z. AllByRecursion (IsValidPacket l (Work z.id)) z.queue) (λ z. AllByRecursion (IsValidPacket m (Work z.id)) z.queue) (λ z all. kept (Work z.id) z.queue all) l.tasks v.queues.tasks));
         clock = kept Clock l.clock v.queues.clock;
         keyboard = kept Keyboard l.keyboard v.queues.keyboard;
         output = kept Output l.output v.queues.output;
@@ -64,7 +64,7 @@ module _ (l : Lists) (t : Task) (v : AreValid l) (task : IsTask l t) (guest : is
       apart : IsApart (map task_id (front ++ back))
       apart = subst (λ z. IsApart (map task_id z)) is v.tasks.distinct
 
-      coroutines : CoroutinesStand l t
+      coroutines : AreValidCoroutines l t
       coroutines = record { each = subst (AllByRecursion _) (sym list) tt; members = subst (AllByRecursion _) (sym active) tt; distinct = subst IsApart (sym active) (λ a. omega arith) }
 
       keeps : (i : ℕ) → has_task i l.tasks ≡ true → has_task i (front ++ t ∷ back) ≡ true
@@ -73,11 +73,11 @@ module _ (l : Lists) (t : Task) (v : AreValid l) (task : IsTask l t) (guest : is
       reporter : has_task 2 (front ++ t ∷ back) ≡ has_task 2 l.tasks
       reporter = has_task-other 2 front t back (guest-other t.id 2 guest refl) ∙ ap (has_task 2) (sym is)
 
-      kept : (at : Place) (ps : List QueuedPacket) → AllByRecursion (MayStand l at) ps → AllByRecursion (MayStand m at) ps
-      kept at ps all = all-each (MayStand l at) (MayStand m at) (λ p h. MayStand-more l m at p refl reporter (λ d. d) keeps h) ps all
+      kept : (at : Place) (ps : List QueuedPacket) → AllByRecursion (IsValidPacket l at) ps → AllByRecursion (IsValidPacket m at) ps
+      kept at ps all = all-each (IsValidPacket l at) (IsValidPacket m at) (λ p h. IsValidPacket-more l m at p refl reporter (λ d. d) keeps h) ps all
 
       same : (a : ℕ) → is_queued a m ≡ is_queued a l
-      same a = is_queued-same a l m (work_packets-between a front t back (ap (stands_in a) queue) ∙ ap (λ z. stands_in a (work_packets z)) (sym is)) refl refl refl refl
+      same a = is_queued-same a l m (work_packets-between a front t back (ap (is_on_queue a) queue) ∙ ap (λ z. is_on_queue a (work_packets z)) (sym is)) refl refl refl refl
 
       count : (a : ℕ) → owners a (owned m) ≡ owners a (owned l) + owners a (task_words l.version t 0)
       count a =
@@ -131,58 +131,58 @@ module _ (l : Lists) (front back : List Task) (t : Task) (v : AreValid l) (is : 
   residents-same i resident = sym (has_task-other i front t back (guest-other t.id i guest resident)) ∙ ap (has_task i) (sym is)
 
   -- a packet of another sender stays where it is
-  stays : (at : Place) (p : QueuedPacket) → MayStand l at p → eqb p.sender t.id ≡ false → MayStand (with_tasks (front ++ back) l) at p
+  stays : (at : Place) (p : QueuedPacket) → IsValidPacket l at p → eqb p.sender t.id ≡ false → IsValidPacket (with_tasks (front ++ back) l) at p
   stays at p h other =
       let ne : p.sender ≢ t.id = eqb-false p.sender t.id other in
-      MayStand-kept l (with_tasks (front ++ back) l) at p refl (residents-same 2 refl) (λ d. d)
+      IsValidPacket-kept l (with_tasks (front ++ back) l) at p refl (residents-same 2 refl) (λ d. d)
       (HasSender-kept l (with_tasks (front ++ back) l) at p.sender (keeps-others p.sender ne)) h
 
   -- and so does any packet of a guest
-  stays-with_guest : (z : ℕ) (p : QueuedPacket) → is_guest_id z ≡ true → MayStand l (Work z) p → MayStand (with_tasks (front ++ back) l) (Work z) p
+  stays-with_guest : (z : ℕ) (p : QueuedPacket) → is_guest_id z ≡ true → IsValidPacket l (Work z) p → IsValidPacket (with_tasks (front ++ back) l) (Work z) p
   stays-with_guest z p high h =
-      MayStand-kept l (with_tasks (front ++ back) l) (Work z) p refl (residents-same 2 refl) (λ d. d)
+      IsValidPacket-kept l (with_tasks (front ++ back) l) (Work z) p refl (residents-same 2 refl) (λ d. d)
       (λ _ resident. absurd (false≢true (sym resident ∙ high))) h
 
-  stay : (at : Place) (ps : List QueuedPacket) → AllByRecursion (MayStand l at) ps → AllByRecursion (λ p. eqb p.sender t.id ≡ false) ps → AllByRecursion (MayStand (with_tasks (front ++ back) l) at) ps
-  stay at ps all others = all-from_both (MayStand l at) (λ p. eqb p.sender t.id ≡ false) (MayStand (with_tasks (front ++ back) l) at) (stays at) ps all others
+  stay : (at : Place) (ps : List QueuedPacket) → AllByRecursion (IsValidPacket l at) ps → AllByRecursion (λ p. eqb p.sender t.id ≡ false) ps → AllByRecursion (IsValidPacket (with_tasks (front ++ back) l) at) ps
+  stay at ps all others = all-from_both (IsValidPacket l at) (λ p. eqb p.sender t.id ≡ false) (IsValidPacket (with_tasks (front ++ back) l) at) (stays at) ps all others
 
-  work-stays : (z : Task) → AllByRecursion (MayStand l (Work z.id)) z.queue → (z.id < 5 → AllByRecursion (λ p. eqb p.sender t.id ≡ false) z.queue) → AllByRecursion (MayStand (with_tasks (front ++ back) l) (Work z.id)) z.queue
+  work-stays : (z : Task) → AllByRecursion (IsValidPacket l (Work z.id)) z.queue → (z.id < 5 → AllByRecursion (λ p. eqb p.sender t.id ≡ false) z.queue) → AllByRecursion (IsValidPacket (with_tasks (front ++ back) l) (Work z.id)) z.queue
   work-stays z all others = on (is_guest_id z.id) refl
     where
-      on : (b : Bool) → is_guest_id z.id ≡ b → AllByRecursion (MayStand (with_tasks (front ++ back) l) (Work z.id)) z.queue
-      on true high = all-each (MayStand l (Work z.id)) (MayStand (with_tasks (front ++ back) l) (Work z.id)) (λ p h. stays-with_guest z.id p high h) z.queue all
+      on : (b : Bool) → is_guest_id z.id ≡ b → AllByRecursion (IsValidPacket (with_tasks (front ++ back) l) (Work z.id)) z.queue
+      on true high = all-each (IsValidPacket l (Work z.id)) (IsValidPacket (with_tasks (front ++ back) l) (Work z.id)) (λ p h. stays-with_guest z.id p high h) z.queue all
       on false low = stay (Work z.id) z.queue all (others (leb-false 5 z.id low))
 
   -- a guest's queue has none of the residents' packets
-  queue-stands : AllByRecursion (MayStand l (Work t.id)) t.queue
-  queue-stands = all-here (λ z. AllByRecursion (MayStand l (Work z.id)) z.queue) front t back (subst (AllByRecursion (λ z. AllByRecursion (MayStand l (Work z.id)) z.queue)) is v.queues.tasks)
+  valid-queue : AllByRecursion (IsValidPacket l (Work t.id)) t.queue
+  valid-queue = all-here (λ z. AllByRecursion (IsValidPacket l (Work z.id)) z.queue) front t back (subst (AllByRecursion (λ z. AllByRecursion (IsValidPacket l (Work z.id)) z.queue)) is v.queues.tasks)
 
-  no_key : l.residents ≡ true → stands_in key_packet t.queue ≡ false
-  no_key r = on (stands_in key_packet t.queue) refl
+  no_key : l.residents ≡ true → is_on_queue key_packet t.queue ≡ false
+  no_key r = on (is_on_queue key_packet t.queue) refl
     where
-      on : (b : Bool) → stands_in key_packet t.queue ≡ b → b ≡ false
+      on : (b : Bool) → is_on_queue key_packet t.queue ≡ b → b ≡ false
       on false e = refl
       on true e =
-          let p = any-found (λ q. eqb q.address key_packet) (MayStand l (Work t.id)) t.queue e queue-stands in
+          let p = any-found (λ q. eqb q.address key_packet) (IsValidPacket l (Work t.id)) t.queue e valid-queue in
           let k : IsKeyPacket (Work t.id) p.0 = p.2.key (and_from l.residents _ r p.1) in
           absurd (guest-other t.id 3 guest refl k.place.0)
 
-  no_fault : has_task 2 l.tasks ≡ true → stands_in fault_packet t.queue ≡ false
-  no_fault r = on (stands_in fault_packet t.queue) refl
+  no_fault : has_task 2 l.tasks ≡ true → is_on_queue fault_packet t.queue ≡ false
+  no_fault r = on (is_on_queue fault_packet t.queue) refl
     where
       number : Work t.id ≡ Work 2 → t.id ≡ 2
       number e = cc
 
-      on : (b : Bool) → stands_in fault_packet t.queue ≡ b → b ≡ false
+      on : (b : Bool) → is_on_queue fault_packet t.queue ≡ b → b ≡ false
       on false e = refl
       on true e =
-          let p = any-found (λ q. eqb q.address fault_packet) (MayStand l (Work t.id)) t.queue e queue-stands in
+          let p = any-found (λ q. eqb q.address fault_packet) (IsValidPacket l (Work t.id)) t.queue e valid-queue in
           let k : IsFaultPacket (Work t.id) p.0 = p.2.fault (and_from (has_task 2 l.tasks) _ r p.1) in
           absurd (guest-other t.id 2 guest refl (number k.place))
 
-  same-queued : (a : ℕ) → stands_in a t.queue ≡ false → is_queued a (with_tasks (front ++ back) l) ≡ is_queued a l
+  same-queued : (a : ℕ) → is_on_queue a t.queue ≡ false → is_queued a (with_tasks (front ++ back) l) ≡ is_queued a l
   same-queued a none =
-      is_queued-same a l (with_tasks (front ++ back) l) (sym (work_packets-between a front t back none) ∙ ap (λ z. stands_in a (work_packets z)) (sym is)) refl refl refl refl
+      is_queued-same a l (with_tasks (front ++ back) l) (sym (work_packets-between a front t back none) ∙ ap (λ z. is_on_queue a (work_packets z)) (sym is)) refl refl refl refl
 
   -- what it owned is taken away
   count : (a : ℕ) → owners a (owned (with_tasks (front ++ back) l)) + owners a (task_words l.version t 0) ≡ owners a (owned l) + 0
@@ -210,12 +210,12 @@ module _ (l : Lists) (front back : List Task) (t : Task) (v : AreValid l) (is : 
         each = all-beside (IsTask l) front t back (subst (AllByRecursion (IsTask l)) is v.tasks.each);
         distinct = λ a. fewer_ids a;
         order = falls-beside front t back (subst PrioritiesFall is v.tasks.order);
-        coroutines = all-beside (CoroutinesStand l) front t back (subst (AllByRecursion (CoroutinesStand l)) is v.coroutines);
+        coroutines = all-beside (AreValidCoroutines l) front t back (subst (AllByRecursion (AreValidCoroutines l)) is v.coroutines);
         work =
-            all-beside (λ z. AllByRecursion (MayStand m (Work z.id)) z.queue) front t back
-            (subst (AllByRecursion (λ z. AllByRecursion (MayStand m (Work z.id)) z.queue)) is
-            (all-from_both (λ z. AllByRecursion (MayStand l (Work z.id)) z.queue) (λ z. z.id < 5 → AllByRecursion (λ p. eqb p.sender t.id ≡ false) z.queue)
-            (λ z. AllByRecursion (MayStand m (Work z.id)) z.queue) work-stays l.tasks v.queues.tasks out.tasks));
+            all-beside (λ z. AllByRecursion (IsValidPacket m (Work z.id)) z.queue) front t back
+            (subst (AllByRecursion (λ z. AllByRecursion (IsValidPacket m (Work z.id)) z.queue)) is
+            (all-from_both (λ z. AllByRecursion (IsValidPacket l (Work z.id)) z.queue) (λ z. z.id < 5 → AllByRecursion (λ p. eqb p.sender t.id ≡ false) z.queue)
+            (λ z. AllByRecursion (IsValidPacket m (Work z.id)) z.queue) work-stays l.tasks v.queues.tasks out.tasks));
         clock = stay Clock l.clock v.queues.clock out.clock;
         keyboard = stay Keyboard l.keyboard v.queues.keyboard out.keyboard;
         output = stay Output l.output v.queues.output out.output;

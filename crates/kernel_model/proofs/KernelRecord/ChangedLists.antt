@@ -32,7 +32,7 @@ exchange-changed s t l m old new plain all h valid size x order once inside unow
           record {
             holds = h.holds;
             exchange = whole;
-            stands = tt;
+            there = tt;
             apart = valid.owns.apart;
             inside = λ a some. omega (arith, valid.owns.inside a some, size, h.size);
             unowned = unowned;

@@ -16,7 +16,7 @@ use Rattle.kernel_model.specs.KernelRecord.Lists.{Lists}
 use Rattle.kernel_model.specs.KernelRecord.Owned.{owned}
 use Rattle.kernel_model.specs.KernelRecord.Task.{Task, is_guest_id, task_words}
 use Rattle.kernel_model.specs.KernelRecord.ValidLists.{AreValid}
-use Rattle.kernel_model.specs.KernelRecord.ValidTasks.{CoroutinesStand, IsCoroutine, IsTask}
+use Rattle.kernel_model.specs.KernelRecord.ValidTasks.{AreValidCoroutines, IsCoroutine, IsTask}
 use Rattle.kernel_model.proofs.KernelRecord.AllThings.{all-beside, all-between, all-from_both, all-here, any-between, any-more}
 use Rattle.kernel_model.proofs.KernelRecord.DataInside.{HasBlock-inside}
 use Rattle.kernel_model.proofs.KernelRecord.EachMember.{all-each}
@@ -52,8 +52,8 @@ module _ (l : Lists) (before after : List Task) (t : Task) (front back : List Co
   task : IsTask l t
   task = all-here (IsTask l) before t after (subst (AllByRecursion (IsTask l)) is v.tasks.each)
 
-  stand : CoroutinesStand l t
-  stand = all-here (CoroutinesStand l) before t after (subst (AllByRecursion (CoroutinesStand l)) is v.coroutines)
+  valid-coroutines : AreValidCoroutines l t
+  valid-coroutines = all-here (AreValidCoroutines l) before t after (subst (AllByRecursion (AreValidCoroutines l)) is v.coroutines)
 
   addresses : map address_of (front ++ c ∷ back) ≡ map address_of front ++ c.address ∷ map address_of back
   addresses = map-append address_of front (c ∷ back)
@@ -72,12 +72,12 @@ module _ (l : Lists) (before after : List Task) (t : Task) (front back : List Co
           ap (has d) addresses
           ∙ any-more (λ q. eqb d q) (map address_of front) c.address (map address_of back) (ap (has d) (sym (map-append address_of front back)) ∙ ap (λ z. has d (map address_of z)) (sym list) ∙ some)
 
-      coroutines : CoroutinesStand l u
+      coroutines : AreValidCoroutines l u
       coroutines =
           record {
-            each = all-between (IsCoroutine l) front c back new (subst (AllByRecursion (IsCoroutine l)) list stand.each);
-            members = all-each (λ d. has d (coroutine_addresses t) ≡ true) (λ d. has d (coroutine_addresses u) ≡ true) keeps t.coroutines.active stand.members;
-            distinct = stand.distinct;
+            each = all-between (IsCoroutine l) front c back new (subst (AllByRecursion (IsCoroutine l)) list valid-coroutines.each);
+            members = all-each (λ d. has d (coroutine_addresses t) ≡ true) (λ d. has d (coroutine_addresses u) ≡ true) keeps t.coroutines.active valid-coroutines.members;
+            distinct = valid-coroutines.distinct;
           }
 
       count : (a : ℕ) → owners a (owned (with_tasks (before ++ u ∷ after) l)) ≡ owners a (owned l) + owners a (coroutine_words 0 [] c 0)
@@ -131,14 +131,14 @@ module _ (l : Lists) (before after : List Task) (t : Task) (front back : List Co
           ∙ ap (λ z. has d (map address_of z)) (sym list)
           ∙ there
 
-      coroutines : CoroutinesStand l u
+      coroutines : AreValidCoroutines l u
       coroutines =
           record {
-            each = all-beside (IsCoroutine l) front c back (subst (AllByRecursion (IsCoroutine l)) list stand.each);
+            each = all-beside (IsCoroutine l) front c back (subst (AllByRecursion (IsCoroutine l)) list valid-coroutines.each);
             members =
-                all-from_both (λ d. has d (coroutine_addresses t) ≡ true) (λ d. eqb d c.address ≡ false) (λ d. has d (coroutine_addresses u) ≡ true) keeps t.coroutines.active stand.members
+                all-from_both (λ d. has d (coroutine_addresses t) ≡ true) (λ d. eqb d c.address ≡ false) (λ d. has d (coroutine_addresses u) ≡ true) keeps t.coroutines.active valid-coroutines.members
                 (all-members (λ d. eqb d c.address ≡ false) t.coroutines.active (λ d there. ne_eqb d c.address (λ e. false≢true (sym idle ∙ ap (λ z. has z t.coroutines.active) (sym e) ∙ there))));
-            distinct = stand.distinct;
+            distinct = valid-coroutines.distinct;
           }
 
       count : (a : ℕ) → owners a (owned (with_tasks (before ++ u ∷ after) l)) ≤ owners a (owned l)

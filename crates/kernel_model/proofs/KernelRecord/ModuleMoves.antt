@@ -16,34 +16,34 @@ use Rattle.kernel_model.specs.KernelRecord.Changes.{AreUnowned, with_modules}
 use Rattle.kernel_model.specs.KernelRecord.Lists.{Lists}
 use Rattle.kernel_model.specs.KernelRecord.Owned.{OwnsApart, owned}
 use Rattle.kernel_model.specs.KernelRecord.Task.{Task}
-use Rattle.kernel_model.specs.KernelRecord.ValidBlocks.{HasBlock, ModulesStand, last_module_word}
+use Rattle.kernel_model.specs.KernelRecord.ValidBlocks.{AreValidModules, HasBlock, last_module_word}
 use Rattle.kernel_model.specs.KernelRecord.ValidLists.{AreValid}
-use Rattle.kernel_model.specs.KernelRecord.ValidQueues.{MayStand, Place}
+use Rattle.kernel_model.specs.KernelRecord.ValidQueues.{IsValidPacket, Place}
 use Rattle.kernel_model.specs.KernelRecord.ValidQueues.Place.{Clock, Keyboard, Output, Pending, Work}
-use Rattle.kernel_model.specs.KernelRecord.ValidTasks.{CoroutinesStand, IsTask}
+use Rattle.kernel_model.specs.KernelRecord.ValidTasks.{AreValidCoroutines, IsTask}
 use Rattle.kernel_model.proofs.KernelRecord.AllThings.{all-always, all-beside, all-between, all-from_both, any-between, any-more}
 use Rattle.kernel_model.proofs.KernelRecord.DataInside.{HasBlock-inside}
 use Rattle.kernel_model.proofs.KernelRecord.EachMember.{all-each}
 use Rattle.kernel_model.proofs.KernelRecord.OwnerCounts.{owned-modules, owners-module_between, owns-more, owns-without}
-use Rattle.kernel_model.proofs.KernelRecord.RulesKept.{CoroutinesStand-same, HasModule, IsTask-kept, MayStand-more, TasksStand-same}
+use Rattle.kernel_model.proofs.KernelRecord.RulesKept.{AreValidCoroutines-same, AreValidTasks-same, HasModule, IsTask-kept, IsValidPacket-more}
 
 -- other modules, of which each has its block, and among which each task has its own
-modules-valid : (l : Lists) (ms : List LoadedModule) → AreValid l → ModulesStand (with_modules ms l)
+modules-valid : (l : Lists) (ms : List LoadedModule) → AreValid l → AreValidModules (with_modules ms l)
     → AllByRecursion (λ t. AllByRecursion (HasModule l) t.modules → AllByRecursion (HasModule (with_modules ms l)) t.modules) l.tasks
     → OwnsApart (with_modules ms l) → AreValid (with_modules ms l)
-modules-valid l ms v stand keeps owns =
+modules-valid l ms v valid-modules keeps owns =
     record {
       blocks = v.blocks;
       numbers = record { version = v.numbers.version; size = v.numbers.size; period = v.numbers.period; residents = v.numbers.residents };
-      modules = stand;
+      modules = valid-modules;
       tasks =
-          TasksStand-same l m refl refl
+          AreValidTasks-same l m refl refl
           (all-from_both (IsTask l) (λ t. AllByRecursion (HasModule l) t.modules → AllByRecursion (HasModule m) t.modules) (IsTask m) (λ t h keep. IsTask-kept l m t refl refl keep (λ _ u b. b) h) l.tasks v.tasks.each keeps)
           v.tasks;
-      coroutines = all-each (CoroutinesStand l) (CoroutinesStand m) (λ t h. CoroutinesStand-same l m t refl h) l.tasks v.coroutines;
+      coroutines = all-each (AreValidCoroutines l) (AreValidCoroutines m) (λ t h. AreValidCoroutines-same l m t refl h) l.tasks v.coroutines;
       queues =
           record {
-            tasks = all-each (λ t. AllByRecursion (MayStand l (Work t.id)) t.queue) (λ t. AllByRecursion (MayStand m (Work t.id)) t.queue) (λ t all. moved (Work t.id) t.queue all) l.tasks v.queues.tasks;
+            tasks = all-each (λ t. AllByRecursion (IsValidPacket l (Work t.id)) t.queue) (λ t. AllByRecursion (IsValidPacket m (Work t.id)) t.queue) (λ t all. moved (Work t.id) t.queue all) l.tasks v.queues.tasks;
             clock = moved Clock l.clock v.queues.clock;
             keyboard = moved Keyboard l.keyboard v.queues.keyboard;
             output = moved Output l.output v.queues.output;
@@ -60,8 +60,8 @@ modules-valid l ms v stand keeps owns =
     m : Lists
     m = with_modules ms l
 
-    moved : (at : Place) (ps : List QueuedPacket) → AllByRecursion (MayStand l at) ps → AllByRecursion (MayStand m at) ps
-    moved at ps all = all-each (MayStand l at) (MayStand m at) (λ p h. MayStand-more l m at p refl refl (λ d. d) (λ i some. some) h) ps all
+    moved : (at : Place) (ps : List QueuedPacket) → AllByRecursion (IsValidPacket l at) ps → AllByRecursion (IsValidPacket m at) ps
+    moved at ps all = all-each (IsValidPacket l at) (IsValidPacket m at) (λ p h. IsValidPacket-more l m at p refl refl (λ d. d) (λ i some. some) h) ps all
 
 -- a module owns its words before those of its hunks
 pub owners-module : (a : ℕ) (m : LoadedModule) (n : ℕ) → owners a (module_words m n) ≡ times a (range_with_len m.address (suc (suc (length m.lengths))))

@@ -14,9 +14,9 @@ use Rattle.kernel_model.specs.KernelRecord.Owned.{owned}
 use Rattle.kernel_model.specs.KernelRecord.Residents.{fault_packet, key_packet}
 use Rattle.kernel_model.specs.KernelRecord.Task.{Task, is_guest_id, task_address, task_id, task_words}
 use Rattle.kernel_model.specs.KernelRecord.ValidLists.{AreValid}
-use Rattle.kernel_model.specs.KernelRecord.ValidQueues.{MayStand, Place}
+use Rattle.kernel_model.specs.KernelRecord.ValidQueues.{IsValidPacket, Place}
 use Rattle.kernel_model.specs.KernelRecord.ValidQueues.Place.{Clock, Keyboard, Output, Pending, Work}
-use Rattle.kernel_model.specs.KernelRecord.ValidTasks.{CoroutinesStand, IsTask, PrioritiesFall}
+use Rattle.kernel_model.specs.KernelRecord.ValidTasks.{AreValidCoroutines, IsTask, PrioritiesFall}
 use Rattle.kernel_model.specs.KernelRecord.Versions.{highest_id_of}
 use Rattle.kernel_model.proofs.KernelRecord.AllThings.{all-beside, all-between, all-here}
 use Rattle.kernel_model.proofs.KernelRecord.AlteredTask.{IsTask-altered}
@@ -24,8 +24,8 @@ use Rattle.kernel_model.proofs.KernelRecord.ChainChanges.{chain-valid}
 use Rattle.kernel_model.proofs.KernelRecord.ChainRules.{falls-beside, falls-insert, times-id}
 use Rattle.kernel_model.proofs.KernelRecord.EachMember.{all-each}
 use Rattle.kernel_model.proofs.KernelRecord.OwnerCounts.{owned-tasks, owners-task_between, owns-without}
-use Rattle.kernel_model.proofs.KernelRecord.QueuedPackets.{fault-kept, is_queued-same, key-kept, stands_in, work_packets}
-use Rattle.kernel_model.proofs.KernelRecord.RulesKept.{MayStand-more}
+use Rattle.kernel_model.proofs.KernelRecord.QueuedPackets.{fault-kept, is_on_queue, is_queued-same, key-kept, work_packets}
+use Rattle.kernel_model.proofs.KernelRecord.RulesKept.{IsValidPacket-more}
 
 pub or-swap : (x y z : Bool) → (x || (y || z)) ≡ (y || (x || z))
 or-swap true true z = refl
@@ -37,13 +37,13 @@ any-out : {X : Type 0} (f : X → Bool) (front : List X) (x : X) (back : List X)
 any-out f [] x back = refl
 any-out f (y ∷ ys) x back = ap (λ b. f y || b) (any-out f ys x back) ∙ or-swap (f y) (f x) (list_any f (ys ++ back))
 
-work_packets-out : (a : ℕ) (front : List Task) (t : Task) (back : List Task) → stands_in a (work_packets (front ++ t ∷ back)) ≡ (stands_in a t.queue || stands_in a (work_packets (front ++ back)))
+work_packets-out : (a : ℕ) (front : List Task) (t : Task) (back : List Task) → is_on_queue a (work_packets (front ++ t ∷ back)) ≡ (is_on_queue a t.queue || is_on_queue a (work_packets (front ++ back)))
 work_packets-out a [] t back = list_any-append (λ q. eqb q.address a) t.queue (work_packets back)
 work_packets-out a (z ∷ zs) t back =
     list_any-append (λ q. eqb q.address a) z.queue (work_packets (zs ++ t ∷ back))
-    ∙ ap (λ b. stands_in a z.queue || b) (work_packets-out a zs t back)
-    ∙ or-swap (stands_in a z.queue) (stands_in a t.queue) (stands_in a (work_packets (zs ++ back)))
-    ∙ ap (λ b. stands_in a t.queue || b) (sym (list_any-append (λ q. eqb q.address a) z.queue (work_packets (zs ++ back))))
+    ∙ ap (λ b. is_on_queue a z.queue || b) (work_packets-out a zs t back)
+    ∙ or-swap (is_on_queue a z.queue) (is_on_queue a t.queue) (is_on_queue a (work_packets (zs ++ back)))
+    ∙ ap (λ b. is_on_queue a t.queue || b) (sym (list_any-append (λ q. eqb q.address a) z.queue (work_packets (zs ++ back))))
 
 module _ (l : Lists) (front : List Task) (t : Task) (back : List Task) (priority : ℕ) (v : AreValid l) (is : l.tasks ≡ front ++ t ∷ back) (guest : is_guest_id t.id ≡ true)
     (low : 1 ≤ priority) (high : priority ≤ 10000) where
@@ -68,11 +68,11 @@ module _ (l : Lists) (front : List Task) (t : Task) (back : List Task) (priority
             (v.tasks.distinct a);
         order = order;
         coroutines =
-            all-moved (CoroutinesStand l)
-            (let c = all-here (CoroutinesStand l) front t back (subst (AllByRecursion (CoroutinesStand l)) is v.coroutines) in
+            all-moved (AreValidCoroutines l)
+            (let c = all-here (AreValidCoroutines l) front t back (subst (AllByRecursion (AreValidCoroutines l)) is v.coroutines) in
             record { each = c.each; members = c.members; distinct = c.distinct })
             v.coroutines;
-        work = all-moved (λ z. AllByRecursion (MayStand m (Work z.id)) z.queue) (all-here (λ z. AllByRecursion (MayStand m (Work z.id)) z.queue) front t back (subst (AllByRecursion (λ z. AllByRecursion (MayStand m (Work z.id)) z.queue)) is work)) work;
+        work = all-moved (λ z. AllByRecursion (IsValidPacket m (Work z.id)) z.queue) (all-here (λ z. AllByRecursion (IsValidPacket m (Work z.id)) z.queue) front t back (subst (AllByRecursion (λ z. AllByRecursion (IsValidPacket m (Work z.id)) z.queue)) is work)) work;
         clock = kept Clock l.clock v.queues.clock;
         keyboard = kept Keyboard l.keyboard v.queues.keyboard;
         output = kept Output l.output v.queues.output;
@@ -96,19 +96,19 @@ module _ (l : Lists) (front : List Task) (t : Task) (back : List Task) (priority
           ∙ sym (any-out (λ z. eqb z.id i) front t back)
           ∙ ap (has_task i) (sym is)
 
-      kept : (at : Place) (ps : List QueuedPacket) → AllByRecursion (MayStand l at) ps → AllByRecursion (MayStand m at) ps
-      kept at ps all = all-each (MayStand l at) (MayStand m at) (λ p h. MayStand-more l m at p refl (same 2) (λ d. d) (λ i some. same i ∙ some) h) ps all
+      kept : (at : Place) (ps : List QueuedPacket) → AllByRecursion (IsValidPacket l at) ps → AllByRecursion (IsValidPacket m at) ps
+      kept at ps all = all-each (IsValidPacket l at) (IsValidPacket m at) (λ p h. IsValidPacket-more l m at p refl (same 2) (λ d. d) (λ i some. same i ∙ some) h) ps all
 
-      work : AllByRecursion (λ z. AllByRecursion (MayStand m (Work z.id)) z.queue) l.tasks
-      work = all-each (λ z. AllByRecursion (MayStand l (Work z.id)) z.queue) (λ z. AllByRecursion (MayStand m (Work z.id)) z.queue) (λ z all. kept (Work z.id) z.queue all) l.tasks v.queues.tasks
+      work : AllByRecursion (λ z. AllByRecursion (IsValidPacket m (Work z.id)) z.queue) l.tasks
+      work = all-each (λ z. AllByRecursion (IsValidPacket l (Work z.id)) z.queue) (λ z. AllByRecursion (IsValidPacket m (Work z.id)) z.queue) (λ z all. kept (Work z.id) z.queue all) l.tasks v.queues.tasks
 
       queued : (a : ℕ) → is_queued a m ≡ is_queued a l
       queued a =
           is_queued-same a l m
           (work_packets-out a before u after
-          ∙ ap (λ z. stands_in a t.queue || stands_in a (work_packets z)) (sym whole)
+          ∙ ap (λ z. is_on_queue a t.queue || is_on_queue a (work_packets z)) (sym whole)
           ∙ sym (work_packets-out a front t back)
-          ∙ ap (λ z. stands_in a (work_packets z)) (sym is))
+          ∙ ap (λ z. is_on_queue a (work_packets z)) (sym is))
           refl refl refl refl
 
       count : (a : ℕ) → owners a (owned m) + 0 ≡ owners a (owned l) + 0

@@ -25,19 +25,19 @@ use Rattle.kernel_model.specs.KernelRecord.ValidLists.{AreValid}
 use Rattle.kernel_model.specs.KernelRecord.ValidQueues.{is_fault_packet, is_key_packet}
 use Rattle.kernel_model.specs.KernelRecord.Versions.{highest_id_of}
 use Rattle.kernel_model.proofs.KernelRecord.OwnerCounts.{owners-devices, owners-owned, owners-residents, packets_count, root_count}
-use Rattle.kernel_model.proofs.KernelRecord.QueuedPackets.{is_queued-parts, stands_in, work_packets}
+use Rattle.kernel_model.proofs.KernelRecord.QueuedPackets.{is_on_queue, is_queued-parts, work_packets}
 use Rattle.kernel_model.proofs.KernelRecord.TaskCounts.{further_count, owners-task_by}
 
 -- ---- a packet of a queue
 
-pub packets-owned : (a : ℕ) (ps : List QueuedPacket) → stands_in a ps ≡ true → 0 < packets_count a ps
+pub packets-owned : (a : ℕ) (ps : List QueuedPacket) → is_on_queue a ps ≡ true → 0 < packets_count a ps
 packets-owned a [] some = cc
 packets-owned a (p ∷ ps) some = on (eqb p.address a) refl some (packets-owned a ps)
   where
     split : packets_count a (p ∷ ps) ≡ owners a (packet_words p (first_of address_of ps 0)) + packets_count a ps
     split = owners-append a (packet_words p (first_of address_of ps 0)) (linked_words address_of packet_words ps 0)
 
-    on : (b : Bool) → eqb p.address a ≡ b → (b || stands_in a ps) ≡ true → (stands_in a ps ≡ true → 0 < packets_count a ps) → 0 < packets_count a (p ∷ ps)
+    on : (b : Bool) → eqb p.address a ≡ b → (b || is_on_queue a ps) ≡ true → (is_on_queue a ps ≡ true → 0 < packets_count a ps) → 0 < packets_count a (p ∷ ps)
     on true e some more = omega (arith, split, hit-same a p.address (sym (eqb-true p.address a e)))
     on false e some more = omega (arith, split, more some)
 
@@ -50,10 +50,10 @@ task-owned a version t n some =
     within h f p c w e some = omega arith
 
 -- a packet of a work queue
-work-owned : (a version : ℕ) (ts : List Task) → stands_in a (work_packets ts) ≡ true → 0 < owners a (linked_words task_address (task_words version) ts 0)
+work-owned : (a version : ℕ) (ts : List Task) → is_on_queue a (work_packets ts) ≡ true → 0 < owners a (linked_words task_address (task_words version) ts 0)
 work-owned a version [] some = cc
 work-owned a version (t ∷ ts) some =
-    elim (or_cases (stands_in a t.queue) (stands_in a (work_packets ts)) (sym (list_any-append (λ q. eqb q.address a) t.queue (work_packets ts)) ∙ some)) [
+    elim (or_cases (is_on_queue a t.queue) (is_on_queue a (work_packets ts)) (sym (list_any-append (λ q. eqb q.address a) t.queue (work_packets ts)) ∙ some)) [
       | inl here ↦ left (owners a (task_words version t (first_of task_address ts 0))) (owners a (linked_words task_address (task_words version) ts 0)) _ split
           (task-owned a version t (first_of task_address ts 0) (packets-owned a t.queue here))
       | inr later ↦ right (owners a (task_words version t (first_of task_address ts 0))) (owners a (linked_words task_address (task_words version) ts 0)) _ split (work-owned a version ts later)
@@ -68,7 +68,7 @@ work-owned a version (t ∷ ts) some =
     right : (x y z : ℕ) → z ≡ x + y → 0 < y → 0 < z
     right x y z e h = omega arith
 
-pub chain-owned : (a : ℕ) (l : Lists) → stands_in a (work_packets l.tasks) ≡ true → 0 < owners a (tasks_words l)
+pub chain-owned : (a : ℕ) (l : Lists) → is_on_queue a (work_packets l.tasks) ≡ true → 0 < owners a (tasks_words l)
 chain-owned a l some =
     within (owners a (entries (address_with task_address task_id l.tasks) 1 (highest_id_of l.version))) (hit a first_task) (owners a (linked_words task_address (task_words l.version) l.tasks 0)) (owners a (tasks_words l))
     (owners-append a (entries (address_with task_address task_id l.tasks) 1 (highest_id_of l.version)) (headed_words task_address (task_words l.version) first_task l.tasks 0)) (work-owned a l.version l.tasks some)
@@ -106,13 +106,13 @@ module _ (a : ℕ) (l : Lists) where
 
   pub queued-owned : (l.residents ≡ false → l.pending ≡ []) → is_queued a l ≡ true → 0 < owners a (owned l)
   queued-owned empty some =
-      elim (or_cases (stands_in a (work_packets l.tasks)) _ (sym (is_queued-parts a l) ∙ some)) [
+      elim (or_cases (is_on_queue a (work_packets l.tasks)) _ (sym (is_queued-parts a l) ∙ some)) [
         | inl work ↦ owned-part (inl (chain-owned a l work))
-        | inr device ↦ elim (or_cases (stands_in a l.clock) _ device) [
+        | inr device ↦ elim (or_cases (is_on_queue a l.clock) _ device) [
           | inl clock ↦ owned-part (inr (inl (device-owned (inl (packets-owned a l.clock clock)))))
-          | inr device ↦ elim (or_cases (stands_in a l.keyboard) _ device) [
+          | inr device ↦ elim (or_cases (is_on_queue a l.keyboard) _ device) [
             | inl keyboard ↦ owned-part (inr (inl (device-owned (inr (inl (packets-owned a l.keyboard keyboard))))))
-            | inr device ↦ elim (or_cases (stands_in a l.output) (stands_in a l.pending) device) [
+            | inr device ↦ elim (or_cases (is_on_queue a l.output) (is_on_queue a l.pending) device) [
               | inl output ↦ owned-part (inr (inl (device-owned (inr (inr (packets-owned a l.output output))))))
               | inr pending ↦ owned-part (inr (inr (waiting l.residents refl pending)))
             ]
@@ -120,9 +120,9 @@ module _ (a : ℕ) (l : Lists) where
         ]
       ]
     where
-      waiting : (b : Bool) → l.residents ≡ b → stands_in a l.pending ≡ true → 0 < owners a (resident_words l)
+      waiting : (b : Bool) → l.residents ≡ b → is_on_queue a l.pending ≡ true → 0 < owners a (resident_words l)
       waiting true is pending = resident-owned is (inl (packets-owned a l.pending pending))
-      waiting false none pending = absurd (false≢true (sym (ap (stands_in a) (empty none)) ∙ pending))
+      waiting false none pending = absurd (false≢true (sym (ap (is_on_queue a) (empty none)) ∙ pending))
 
 -- ---- the residents' two packets
 

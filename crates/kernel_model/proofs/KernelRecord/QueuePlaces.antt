@@ -11,15 +11,15 @@ use Rattle.kernel_model.specs.KernelRecord.Owned.{OwnsApart}
 use Rattle.kernel_model.specs.KernelRecord.Residents.{fault_packet, key_packet}
 use Rattle.kernel_model.specs.KernelRecord.Task.{Task, task_id}
 use Rattle.kernel_model.specs.KernelRecord.ValidLists.{AreValid}
-use Rattle.kernel_model.specs.KernelRecord.ValidQueues.{MayStand, NeverFall, Place}
+use Rattle.kernel_model.specs.KernelRecord.ValidQueues.{IsValidPacket, NeverFall, Place}
 use Rattle.kernel_model.specs.KernelRecord.ValidQueues.Place.{Clock, Keyboard, Output, Pending, Work}
-use Rattle.kernel_model.specs.KernelRecord.ValidTasks.{CoroutinesStand, IsTask}
+use Rattle.kernel_model.specs.KernelRecord.ValidTasks.{AreValidCoroutines, IsTask}
 use Rattle.kernel_model.proofs.KernelRecord.AllThings.{all-beside, all-here}
 use Rattle.kernel_model.proofs.KernelRecord.ChainChanges.{with_chain}
 use Rattle.kernel_model.proofs.KernelRecord.OneTask.{queued-one_task, task-changed}
 use Rattle.kernel_model.proofs.KernelRecord.OwnerCounts.{with_queues}
-use Rattle.kernel_model.proofs.KernelRecord.QueuedPackets.{fault-kept, is_queued-parts, is_queued-same, key-kept, stands_in, work_packets, work_packets-here}
-use Rattle.kernel_model.proofs.KernelRecord.RulesKept.{CoroutinesStand-same, IsTask-kept, IsTask-queue, MayStand-more, TasksStand-same}
+use Rattle.kernel_model.proofs.KernelRecord.QueuedPackets.{fault-kept, is_on_queue, is_queued-parts, is_queued-same, key-kept, work_packets, work_packets-here}
+use Rattle.kernel_model.proofs.KernelRecord.RulesKept.{AreValidCoroutines-same, AreValidTasks-same, IsTask-kept, IsTask-queue, IsValidPacket-more}
 use Rattle.kernel_model.proofs.KernelRecord.WorkQueues.{WorkSplit, work-split}
 use Rattle.kernel_model.proofs.KernelRecord.EachMember.{all-each}
 
@@ -39,17 +39,17 @@ KeepsOrder-beside Pending front p back h = tt
 
 -- ---- what stands at a place
 
-pub place-stands : (l : Lists) (at : Place) → AreValid l → HasPlace l at → AllByRecursion (MayStand l at) (queue_of at l)
-place-stands l (Work id) v has =
+pub valid-at-place : (l : Lists) (at : Place) → AreValid l → HasPlace l at → AllByRecursion (IsValidPacket l at) (queue_of at l)
+valid-at-place l (Work id) v has =
     let r : WorkSplit id [] l.tasks = work-split id [] l.tasks v.tasks.distinct has in
-    let there : AllByRecursion (MayStand l (Work r.task.id)) r.task.queue =
-    all-here (λ z. AllByRecursion (MayStand l (Work z.id)) z.queue) r.front r.task r.back (subst (AllByRecursion (λ z. AllByRecursion (MayStand l (Work z.id)) z.queue)) r.whole v.queues.tasks)
+    let there : AllByRecursion (IsValidPacket l (Work r.task.id)) r.task.queue =
+    all-here (λ z. AllByRecursion (IsValidPacket l (Work z.id)) z.queue) r.front r.task r.back (subst (AllByRecursion (λ z. AllByRecursion (IsValidPacket l (Work z.id)) z.queue)) r.whole v.queues.tasks)
     in
-    subst (AllByRecursion (MayStand l (Work id))) (sym r.queue) (subst (λ i. AllByRecursion (MayStand l (Work i)) r.task.queue) r.number there)
-place-stands l Clock v has = v.queues.clock
-place-stands l Keyboard v has = v.queues.keyboard
-place-stands l Output v has = v.queues.output
-place-stands l Pending v has = v.queues.pending
+    subst (AllByRecursion (IsValidPacket l (Work id))) (sym r.queue) (subst (λ i. AllByRecursion (IsValidPacket l (Work i)) r.task.queue) r.number there)
+valid-at-place l Clock v has = v.queues.clock
+valid-at-place l Keyboard v has = v.queues.keyboard
+valid-at-place l Output v has = v.queues.output
+valid-at-place l Pending v has = v.queues.pending
 
 -- where a packet stands there is a place
 work-there : (id : ℕ) (ts : List Task) (front : List QueuedPacket) (p : QueuedPacket) (back : List QueuedPacket) → work_of id ts ≡ front ++ p ∷ back → has_task id ts ≡ true
@@ -90,10 +90,10 @@ place-order l Pending v = tt
 
 -- What such queues have to meet: their packets may stand there, due ticks never fall, and without residents no read waits.
 pub record FitQueues (l : Lists) (c k o p : List QueuedPacket) : Type 0 where
-  pub clock : AllByRecursion (MayStand l Clock) c
-  pub keyboard : AllByRecursion (MayStand l Keyboard) k
-  pub output : AllByRecursion (MayStand l Output) o
-  pub pending : AllByRecursion (MayStand l Pending) p
+  pub clock : AllByRecursion (IsValidPacket l Clock) c
+  pub keyboard : AllByRecursion (IsValidPacket l Keyboard) k
+  pub output : AllByRecursion (IsValidPacket l Output) o
+  pub pending : AllByRecursion (IsValidPacket l Pending) p
   pub due : NeverFall c
   pub no_console : l.residents ≡ false → p ≡ []
 
@@ -107,13 +107,13 @@ queues-valid l c k o p x f v fit key fault owns =
       numbers = record { version = v.numbers.version; size = v.numbers.size; period = v.numbers.period; residents = v.numbers.residents };
       modules = v.modules;
       tasks =
-          TasksStand-same l m refl refl
+          AreValidTasks-same l m refl refl
           (all-each (IsTask l) (IsTask m) (λ t h. IsTask-kept l m t refl refl (λ all. all) (λ _ u h. h) h) l.tasks v.tasks.each)
           v.tasks;
-      coroutines = all-each (CoroutinesStand l) (CoroutinesStand m) (λ t h. CoroutinesStand-same l m t refl h) l.tasks v.coroutines;
+      coroutines = all-each (AreValidCoroutines l) (AreValidCoroutines m) (λ t h. AreValidCoroutines-same l m t refl h) l.tasks v.coroutines;
       queues =
           record {
-            tasks = all-each (λ t. AllByRecursion (MayStand l (Work t.id)) t.queue) (λ t. AllByRecursion (MayStand m (Work t.id)) t.queue) (λ t all. moved (Work t.id) t.queue all) l.tasks v.queues.tasks;
+            tasks = all-each (λ t. AllByRecursion (IsValidPacket l (Work t.id)) t.queue) (λ t. AllByRecursion (IsValidPacket m (Work t.id)) t.queue) (λ t all. moved (Work t.id) t.queue all) l.tasks v.queues.tasks;
             clock = moved Clock c fit.clock;
             keyboard = moved Keyboard k fit.keyboard;
             output = moved Output o fit.output;
@@ -130,17 +130,17 @@ queues-valid l c k o p x f v fit key fault owns =
     m : Lists
     m = with_queues c k o p x f l
 
-    moved : (at : Place) (ps : List QueuedPacket) → AllByRecursion (MayStand l at) ps → AllByRecursion (MayStand m at) ps
-    moved at ps all = all-each (MayStand l at) (MayStand m at) (λ p h. MayStand-more l m at p refl refl (λ d. d) (λ i some. some) h) ps all
+    moved : (at : Place) (ps : List QueuedPacket) → AllByRecursion (IsValidPacket l at) ps → AllByRecursion (IsValidPacket m at) ps
+    moved at ps all = all-each (IsValidPacket l at) (IsValidPacket m at) (λ p h. IsValidPacket-more l m at p refl refl (λ d. d) (λ i some. some) h) ps all
 
 -- ---- which packets are queued
 
-pub is_queued-place : (a : ℕ) (l : Lists) (at : Place) (ps : List QueuedPacket) → IsApart (map task_id l.tasks) → HasPlace l at → stands_in a ps ≡ stands_in a (queue_of at l)
+pub is_queued-place : (a : ℕ) (l : Lists) (at : Place) (ps : List QueuedPacket) → IsApart (map task_id l.tasks) → HasPlace l at → is_on_queue a ps ≡ is_on_queue a (queue_of at l)
     → is_queued a (with_queue at ps l) ≡ is_queued a l
 is_queued-place a l (Work id) ps apart has e =
     let r : WorkSplit id ps l.tasks = work-split id ps l.tasks apart has in
     subst (λ z. is_queued a (with_tasks z l) ≡ is_queued a l) (sym r.becomes)
-    (queued-one_task l r.front r.task (record r.task { queue = ps }) r.back r.whole a (e ∙ ap (stands_in a) r.queue))
+    (queued-one_task l r.front r.task (record r.task { queue = ps }) r.back r.whole a (e ∙ ap (is_on_queue a) r.queue))
 is_queued-place a l Clock ps apart has e = is_queued-same a l (with_queue Clock ps l) refl e refl refl refl
 is_queued-place a l Keyboard ps apart has e = is_queued-same a l (with_queue Keyboard ps l) refl refl e refl refl
 is_queued-place a l Output ps apart has e = is_queued-same a l (with_queue Output ps l) refl refl refl e refl
@@ -150,7 +150,7 @@ behind : (x y z : Bool) → z ≡ true → (x || (y || z)) ≡ true
 behind x y z some = or_right x (y || z) (or_right y z some)
 
 -- a packet of the queue at a place is queued
-pub is_queued-here : (a : ℕ) (l : Lists) (at : Place) (ps : List QueuedPacket) → IsApart (map task_id l.tasks) → HasPlace l at → stands_in a ps ≡ true → is_queued a (with_queue at ps l) ≡ true
+pub is_queued-here : (a : ℕ) (l : Lists) (at : Place) (ps : List QueuedPacket) → IsApart (map task_id l.tasks) → HasPlace l at → is_on_queue a ps ≡ true → is_queued a (with_queue at ps l) ≡ true
 is_queued-here a l (Work id) ps apart has some =
     let r : WorkSplit id ps l.tasks = work-split id ps l.tasks apart has in
     let u : Task = record r.task { queue = ps } in
@@ -158,16 +158,16 @@ is_queued-here a l (Work id) ps apart has some =
     (is_queued-parts a (with_tasks (r.front ++ u ∷ r.back) l) ∙ or_left _ _ (work_packets-here a r.front u r.back some))
 is_queued-here a l Clock ps apart has some =
     is_queued-parts a (with_queue Clock ps l)
-    ∙ or_right (stands_in a (work_packets l.tasks)) (stands_in a ps || (stands_in a l.keyboard || (stands_in a l.output || stands_in a l.pending))) (or_left (stands_in a ps) _ some)
+    ∙ or_right (is_on_queue a (work_packets l.tasks)) (is_on_queue a ps || (is_on_queue a l.keyboard || (is_on_queue a l.output || is_on_queue a l.pending))) (or_left (is_on_queue a ps) _ some)
 is_queued-here a l Keyboard ps apart has some =
-    is_queued-parts a (with_queue Keyboard ps l) ∙ behind (stands_in a (work_packets l.tasks)) (stands_in a l.clock) (stands_in a ps || (stands_in a l.output || stands_in a l.pending)) (or_left (stands_in a ps) _ some)
+    is_queued-parts a (with_queue Keyboard ps l) ∙ behind (is_on_queue a (work_packets l.tasks)) (is_on_queue a l.clock) (is_on_queue a ps || (is_on_queue a l.output || is_on_queue a l.pending)) (or_left (is_on_queue a ps) _ some)
 is_queued-here a l Output ps apart has some =
     is_queued-parts a (with_queue Output ps l)
-    ∙ behind (stands_in a (work_packets l.tasks)) (stands_in a l.clock) (stands_in a l.keyboard || (stands_in a ps || stands_in a l.pending))
-    (or_right (stands_in a l.keyboard) (stands_in a ps || stands_in a l.pending) (or_left (stands_in a ps) (stands_in a l.pending) some))
+    ∙ behind (is_on_queue a (work_packets l.tasks)) (is_on_queue a l.clock) (is_on_queue a l.keyboard || (is_on_queue a ps || is_on_queue a l.pending))
+    (or_right (is_on_queue a l.keyboard) (is_on_queue a ps || is_on_queue a l.pending) (or_left (is_on_queue a ps) (is_on_queue a l.pending) some))
 is_queued-here a l Pending ps apart has some =
     is_queued-parts a (with_queue Pending ps l)
-    ∙ behind (stands_in a (work_packets l.tasks)) (stands_in a l.clock) (stands_in a l.keyboard || (stands_in a l.output || stands_in a ps)) (behind (stands_in a l.keyboard) (stands_in a l.output) (stands_in a ps) some)
+    ∙ behind (is_on_queue a (work_packets l.tasks)) (is_on_queue a l.clock) (is_on_queue a l.keyboard || (is_on_queue a l.output || is_on_queue a ps)) (behind (is_on_queue a l.keyboard) (is_on_queue a l.output) (is_on_queue a ps) some)
 
 -- ---- a queue at any place
 
@@ -175,17 +175,17 @@ is_queued-here a l Pending ps apart has some =
 abbrev pub with_packets : Option ℕ → Bool → Lists → Lists
 with_packets x f l = record l { key = x; fault_packet_free = f }
 
-pub place-valid : (l : Lists) (at : Place) (ps : List QueuedPacket) (x : Option ℕ) (f : Bool) → AreValid l → HasPlace l at → AllByRecursion (MayStand l at) ps → KeepsOrder at ps
+pub place-valid : (l : Lists) (at : Place) (ps : List QueuedPacket) (x : Option ℕ) (f : Bool) → AreValid l → HasPlace l at → AllByRecursion (IsValidPacket l at) ps → KeepsOrder at ps
     → is_some x ≡ (l.residents && not (is_queued key_packet (with_queue at ps l))) → f ≡ (has_task 2 l.tasks && not (is_queued fault_packet (with_queue at ps l)))
     → OwnsApart (with_packets x f (with_queue at ps l)) → AreValid (with_packets x f (with_queue at ps l))
 place-valid l (Work id) ps x f v has all order key fault owns =
     let r : WorkSplit id ps l.tasks = work-split id ps l.tasks v.tasks.distinct has in
     let u : Task = record r.task { queue = ps } in
     let task : IsTask l u = IsTask-queue l r.task ps (all-here (IsTask l) r.front r.task r.back (subst (AllByRecursion (IsTask l)) r.whole v.tasks.each)) in
-    let old : CoroutinesStand l r.task = all-here (CoroutinesStand l) r.front r.task r.back (subst (AllByRecursion (CoroutinesStand l)) r.whole v.coroutines) in
-    let coroutines : CoroutinesStand l u = record { each = old.each; members = old.members; distinct = old.distinct } in
+    let old : AreValidCoroutines l r.task = all-here (AreValidCoroutines l) r.front r.task r.back (subst (AllByRecursion (AreValidCoroutines l)) r.whole v.coroutines) in
+    let coroutines : AreValidCoroutines l u = record { each = old.each; members = old.members; distinct = old.distinct } in
     subst (λ z. AreValid (with_chain z x f l)) (sym r.becomes)
-    (task-changed l r.front r.task u r.back r.whole x f v refl refl task coroutines (subst (λ i. AllByRecursion (MayStand l (Work i)) ps) (sym r.number) all)
+    (task-changed l r.front r.task u r.back r.whole x f v refl refl task coroutines (subst (λ i. AllByRecursion (IsValidPacket l (Work i)) ps) (sym r.number) all)
     (subst (λ z. is_some x ≡ (l.residents && not (is_queued key_packet (with_tasks z l)))) r.becomes key)
     (subst (λ z. f ≡ (has_task 2 l.tasks && not (is_queued fault_packet (with_tasks z l)))) r.becomes fault)
     (subst (λ z. OwnsApart (with_chain z x f l)) r.becomes owns))
@@ -239,8 +239,8 @@ with_queue-size Output ps l = refl
 with_queue-size Pending ps l = refl
 
 -- where the residents' two packets are on it as before
-pub queue-valid : (l : Lists) (at : Place) (ps : List QueuedPacket) → AreValid l → HasPlace l at → AllByRecursion (MayStand l at) ps → KeepsOrder at ps
-    → (l.residents ≡ true → stands_in key_packet ps ≡ stands_in key_packet (queue_of at l)) → (has_task 2 l.tasks ≡ true → stands_in fault_packet ps ≡ stands_in fault_packet (queue_of at l))
+pub queue-valid : (l : Lists) (at : Place) (ps : List QueuedPacket) → AreValid l → HasPlace l at → AllByRecursion (IsValidPacket l at) ps → KeepsOrder at ps
+    → (l.residents ≡ true → is_on_queue key_packet ps ≡ is_on_queue key_packet (queue_of at l)) → (has_task 2 l.tasks ≡ true → is_on_queue fault_packet ps ≡ is_on_queue fault_packet (queue_of at l))
     → OwnsApart (with_queue at ps l) → AreValid (with_queue at ps l)
 queue-valid l at ps v has all order key fault owns =
     subst AreValid (with_queue-packets l at ps)

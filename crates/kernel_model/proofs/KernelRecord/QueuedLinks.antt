@@ -40,7 +40,7 @@ link-inside s p (q ∷ qs) nodes h some =
 queue-link : (s : List ℕ) (head p : ℕ) (ps : List QueuedPacket) → HeldQueue s head ps → list_any (is_at p) ps ≡ true → get_or s p 0 < length s
 queue-link s head p ps h some =
     let list = held-queue s head ps h in
-    link-inside s p ps (subst (AllByRecursion (IsNode s link_of packet_size)) list.list list.stands.nodes) h.holds.1 some
+    link-inside s p ps (subst (AllByRecursion (IsNode s link_of packet_size)) list.list list.valid.nodes) h.holds.1 some
 
 work-link : (s : List ℕ) (p : ℕ) (ts : List Task) → AllByRecursion (λ t. HeldQueue s (queue_head t.address) t.queue) ts → list_any (is_at p) (flat_map (λ t. t.queue) ts) ≡ true → get_or s p 0 < length s
 work-link s p [] all some = cc

@@ -9,14 +9,14 @@ use Rattle.kernel_model.specs.KernelRecord.Residents.{fault_packet, key_packet}
 use Rattle.kernel_model.specs.KernelRecord.Task.{Task}
 
 -- whether the packet at an address is on one queue
-abbrev pub stands_in : ℕ → List QueuedPacket → Bool
-stands_in a ps = list_any (λ q. eqb q.address a) ps
+abbrev pub is_on_queue : ℕ → List QueuedPacket → Bool
+is_on_queue a ps = list_any (λ q. eqb q.address a) ps
 
 -- the packets on the work queues
 abbrev pub work_packets : List Task → List QueuedPacket
 work_packets ts = flat_map (λ t. t.queue) ts
 
-pub is_queued-parts : (a : ℕ) (l : Lists) → is_queued a l ≡ (stands_in a (work_packets l.tasks) || (stands_in a l.clock || (stands_in a l.keyboard || (stands_in a l.output || stands_in a l.pending))))
+pub is_queued-parts : (a : ℕ) (l : Lists) → is_queued a l ≡ (is_on_queue a (work_packets l.tasks) || (is_on_queue a l.clock || (is_on_queue a l.keyboard || (is_on_queue a l.output || is_on_queue a l.pending))))
 is_queued-parts a l = five (λ q. eqb q.address a) (work_packets l.tasks) l.clock l.keyboard l.output l.pending
   where
     five : (f : QueuedPacket → Bool) (A B C D E : List QueuedPacket) → list_any f (A ++ (B ++ (C ++ (D ++ E)))) ≡ (list_any f A || (list_any f B || (list_any f C || (list_any f D || list_any f E))))
@@ -27,37 +27,37 @@ is_queued-parts a l = five (λ q. eqb q.address a) (work_packets l.tasks) l.cloc
         ∙ ap (λ b. list_any f A || (list_any f B || (list_any f C || b))) (list_any-append f D E)
 
 -- the same packets on each queue
-pub is_queued-same : (a : ℕ) (l m : Lists) → stands_in a (work_packets m.tasks) ≡ stands_in a (work_packets l.tasks) → stands_in a m.clock ≡ stands_in a l.clock → stands_in a m.keyboard ≡ stands_in a l.keyboard
-    → stands_in a m.output ≡ stands_in a l.output → stands_in a m.pending ≡ stands_in a l.pending → is_queued a m ≡ is_queued a l
+pub is_queued-same : (a : ℕ) (l m : Lists) → is_on_queue a (work_packets m.tasks) ≡ is_on_queue a (work_packets l.tasks) → is_on_queue a m.clock ≡ is_on_queue a l.clock → is_on_queue a m.keyboard ≡ is_on_queue a l.keyboard
+    → is_on_queue a m.output ≡ is_on_queue a l.output → is_on_queue a m.pending ≡ is_on_queue a l.pending → is_queued a m ≡ is_queued a l
 is_queued-same a l m work clock keyboard output pending =
     is_queued-parts a m ∙ (λ i. work i || (clock i || (keyboard i || (output i || pending i)))) ∙ sym (is_queued-parts a l)
 
 -- one task has another queue, with the same packet or without it
-pub work_packets-put : (a : ℕ) (front : List Task) (t u : Task) (back : List Task) → stands_in a u.queue ≡ stands_in a t.queue → stands_in a (work_packets (front ++ u ∷ back)) ≡ stands_in a (work_packets (front ++ t ∷ back))
+pub work_packets-put : (a : ℕ) (front : List Task) (t u : Task) (back : List Task) → is_on_queue a u.queue ≡ is_on_queue a t.queue → is_on_queue a (work_packets (front ++ u ∷ back)) ≡ is_on_queue a (work_packets (front ++ t ∷ back))
 work_packets-put a [] t u back e =
     list_any-append (λ q. eqb q.address a) u.queue (work_packets back)
-    ∙ ap (λ b. b || stands_in a (work_packets back)) e
+    ∙ ap (λ b. b || is_on_queue a (work_packets back)) e
     ∙ sym (list_any-append (λ q. eqb q.address a) t.queue (work_packets back))
 work_packets-put a (z ∷ zs) t u back e =
     list_any-append (λ q. eqb q.address a) z.queue (work_packets (zs ++ u ∷ back))
-    ∙ ap (λ b. stands_in a z.queue || b) (work_packets-put a zs t u back e)
+    ∙ ap (λ b. is_on_queue a z.queue || b) (work_packets-put a zs t u back e)
     ∙ sym (list_any-append (λ q. eqb q.address a) z.queue (work_packets (zs ++ t ∷ back)))
 
 -- a task without that packet
-pub work_packets-between : (a : ℕ) (front : List Task) (t : Task) (back : List Task) → stands_in a t.queue ≡ false → stands_in a (work_packets (front ++ t ∷ back)) ≡ stands_in a (work_packets (front ++ back))
+pub work_packets-between : (a : ℕ) (front : List Task) (t : Task) (back : List Task) → is_on_queue a t.queue ≡ false → is_on_queue a (work_packets (front ++ t ∷ back)) ≡ is_on_queue a (work_packets (front ++ back))
 work_packets-between a [] t back none =
     list_any-append (λ q. eqb q.address a) t.queue (work_packets back)
-    ∙ ap (λ b. b || stands_in a (work_packets back)) none
+    ∙ ap (λ b. b || is_on_queue a (work_packets back)) none
 work_packets-between a (z ∷ zs) t back none =
     list_any-append (λ q. eqb q.address a) z.queue (work_packets (zs ++ t ∷ back))
-    ∙ ap (λ b. stands_in a z.queue || b) (work_packets-between a zs t back none)
+    ∙ ap (λ b. is_on_queue a z.queue || b) (work_packets-between a zs t back none)
     ∙ sym (list_any-append (λ q. eqb q.address a) z.queue (work_packets (zs ++ back)))
 
-pub work_packets-here : (a : ℕ) (front : List Task) (t : Task) (back : List Task) → stands_in a t.queue ≡ true → stands_in a (work_packets (front ++ t ∷ back)) ≡ true
-work_packets-here a [] t back some = list_any-append (λ q. eqb q.address a) t.queue (work_packets back) ∙ or_left (stands_in a t.queue) (stands_in a (work_packets back)) some
+pub work_packets-here : (a : ℕ) (front : List Task) (t : Task) (back : List Task) → is_on_queue a t.queue ≡ true → is_on_queue a (work_packets (front ++ t ∷ back)) ≡ true
+work_packets-here a [] t back some = list_any-append (λ q. eqb q.address a) t.queue (work_packets back) ∙ or_left (is_on_queue a t.queue) (is_on_queue a (work_packets back)) some
 work_packets-here a (z ∷ zs) t back some =
     list_any-append (λ q. eqb q.address a) z.queue (work_packets (zs ++ t ∷ back))
-    ∙ or_right (stands_in a z.queue) (stands_in a (work_packets (zs ++ t ∷ back))) (work_packets-here a zs t back some)
+    ∙ or_right (is_on_queue a z.queue) (is_on_queue a (work_packets (zs ++ t ∷ back))) (work_packets-here a zs t back some)
 
 -- ---- the residents' two packets
 

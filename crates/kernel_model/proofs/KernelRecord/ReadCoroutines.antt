@@ -20,7 +20,7 @@ use Rattle.kernel_lists.specs.Coroutines.HeldCoroutines.{Coroutine, HasCoroutine
 use Rattle.kernel_lists.proofs.Coroutines.HeldCoroutineLists.{are_coroutines}
 use Rattle.kernel_model.specs.KernelRecord.Lists.{Lists}
 use Rattle.kernel_model.specs.KernelRecord.Task.{Task, fault_words, name_words, queue_head, state_words, task_words}
-use Rattle.kernel_model.specs.KernelRecord.ValidTasks.{CoroutinesStand, IsCoroutine}
+use Rattle.kernel_model.specs.KernelRecord.ValidTasks.{AreValidCoroutines, IsCoroutine}
 use Rattle.kernel_model.proofs.KernelRecord.EachMember.{all-each}
 use Rattle.kernel_model.proofs.KernelRecord.TaskKind.{frames_of, owners-whole, owners-task}
 use Rattle.kernel_model.proofs.KernelRecord.TaskPlaces.{TaskPlace}
@@ -67,8 +67,8 @@ coroutine-block : (s : List ℕ) (l : Lists) → blocks_in s ≡ l.blocks → (c
 coroutine-block s l same c is = record { start = is.block.start; here = is.block.here; block = ap (used_at c.address) same ∙ is.block.block; high = is.high }
 
 pub read-coroutines : (s : List ℕ) (l : Lists) (t : Task) (n : ℕ) → IsTiled s → blocks_in s ≡ l.blocks → Holds s (task_words l.version t n) → AreApart (task_words l.version t n)
-    → AreInside s (task_words l.version t n) → TaskPlace l t → CoroutinesStand l t → HoldsCoroutines s t.address t.coroutines
-read-coroutines s l t n tiled same h apart inside p stand =
+    → AreInside s (task_words l.version t n) → TaskPlace l t → AreValidCoroutines l t → HoldsCoroutines s t.address t.coroutines
+read-coroutines s l t n tiled same h apart inside p valid-coroutines =
     let words = (holds-task s l.version t n h).coroutines in
     let own : (a : ℕ) → times a (range_with_len t.address 23) + owners a (frames_of t) ≤ 1 = λ a. omega (arith, apart a, owners-whole a l.version t n) in
     record {
@@ -89,13 +89,13 @@ read-coroutines s l t n tiled same h apart inside p stand =
                   holds = words.1.1.1;
                   apart = λ a. omega (arith, apart a, owners-task a l.version t n);
                   inside = λ a some. inside a (omega (arith, some, owners-task a l.version t n));
-                  some = all-each (IsCoroutine l) (λ c. 0 < c.address) (λ c is. omega (arith, is.block.here)) t.coroutines.list stand.each;
+                  some = all-each (IsCoroutine l) (λ c. 0 < c.address) (λ c is. omega (arith, is.block.here)) t.coroutines.list valid-coroutines.each;
                 };
             apart = own;
             current = words.0;
-            blocks = all-each (IsCoroutine l) (HasCoroutineBlock s) (coroutine-block s l same) t.coroutines.list stand.each;
-            members = stand.members;
-            distinct = stand.distinct;
+            blocks = all-each (IsCoroutine l) (HasCoroutineBlock s) (coroutine-block s l same) t.coroutines.list valid-coroutines.each;
+            members = valid-coroutines.members;
+            distinct = valid-coroutines.distinct;
           };
       root_p = words.1.0;
       root_pc = words.1.1.0;

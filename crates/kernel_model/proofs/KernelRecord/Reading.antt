@@ -13,9 +13,9 @@ use Rattle.kernel_model.specs.KernelRecord.ReadsLists.{ReadsLists}
 use Rattle.kernel_model.specs.KernelRecord.Residents.{fault_packet_words, key_arguments, key_words, pending_head, resident_words}
 use Rattle.kernel_model.specs.KernelRecord.Task.{queue_head, task_address, task_id, task_words}
 use Rattle.kernel_model.specs.KernelRecord.ValidLists.{AreValid}
-use Rattle.kernel_model.specs.KernelRecord.ValidQueues.{MayStand}
+use Rattle.kernel_model.specs.KernelRecord.ValidQueues.{IsValidPacket}
 use Rattle.kernel_model.specs.KernelRecord.ValidQueues.Place.{Clock, Keyboard, Output, Pending, Work}
-use Rattle.kernel_model.specs.KernelRecord.ValidTasks.{CoroutinesStand}
+use Rattle.kernel_model.specs.KernelRecord.ValidTasks.{AreValidCoroutines}
 use Rattle.kernel_model.proofs.KernelRecord.EachMember.{all-both, held-each}
 use Rattle.kernel_model.proofs.KernelRecord.OwnedParts.{HoldsParts, holds-parts, owners-parts}
 use Rattle.kernel_model.proofs.KernelRecord.ReadCoroutines.{holds-task, read-coroutines}
@@ -46,15 +46,15 @@ read-lists s l v size h =
       tasks = held-tasks task_address task_id (task_words l.version) (are_tasks l.version) s l.tasks tasks;
       modules = read-modules s l v size h;
       work =
-          held-each task_address (task_words l.version) s (λ t. AllByRecursion (MayStand l (Work t.id)) t.queue) (λ t. HeldQueue s (queue_head t.address) t.queue)
+          held-each task_address (task_words l.version) s (λ t. AllByRecursion (IsValidPacket l (Work t.id)) t.queue) (λ t. HeldQueue s (queue_head t.address) t.queue)
           (λ t n own apart within all.
           read-queue s (queue_head t.address) t.queue (task_words l.version t n) (holds-task s l.version t n own).queue (λ a. omega (arith, owners-task a l.version t n)) apart within
           (packets-some l (Work t.id) t.queue all))
           l.tasks 0 parts.chain.1 chain_apart chain_inside v.queues.tasks;
       coroutines =
-          held-each task_address (task_words l.version) s (λ t. TaskPlace l t × CoroutinesStand l t) (λ t. HoldsCoroutines s t.address t.coroutines)
+          held-each task_address (task_words l.version) s (λ t. TaskPlace l t × AreValidCoroutines l t) (λ t. HoldsCoroutines s t.address t.coroutines)
           (λ t n own apart within all. read-coroutines s l t n blocks.tiled blocks.blocks own apart within all.0 all.1)
-          l.tasks 0 parts.chain.1 chain_apart chain_inside (all-both (TaskPlace l) (CoroutinesStand l) l.tasks places v.coroutines);
+          l.tasks 0 parts.chain.1 chain_apart chain_inside (all-both (TaskPlace l) (AreValidCoroutines l) l.tasks places v.coroutines);
       clock = read-queue s clock_head l.clock (owned l) parts.clock (λ a. omega (arith, owners-parts a l)) v.owns.apart inside (packets-some l Clock l.clock v.queues.clock);
       keyboard = read-queue s keyboard_head l.keyboard (owned l) parts.keyboard (λ a. omega (arith, owners-parts a l)) v.owns.apart inside (packets-some l Keyboard l.keyboard v.queues.keyboard);
       output = read-queue s output_head l.output (owned l) parts.output (λ a. omega (arith, owners-parts a l)) v.owns.apart inside (packets-some l Output l.output v.queues.output);

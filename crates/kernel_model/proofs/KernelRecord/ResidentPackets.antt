@@ -13,7 +13,7 @@ use Rattle.kernel_model.specs.KernelRecord.Owned.{device_words, owned}
 use Rattle.kernel_model.specs.KernelRecord.Residents.{fault_packet, fault_packet_words, key_arguments, key_packet, key_words, keyboard, pending_head, resident_words}
 use Rattle.kernel_model.specs.KernelRecord.ValidBlocks.{AreData, HasBlock, last_resident_word}
 use Rattle.kernel_model.specs.KernelRecord.ValidLists.{AreValid}
-use Rattle.kernel_model.specs.KernelRecord.ValidQueues.{IsFaultPacket, IsKeyPacket, MayStand, Place, is_key_packet}
+use Rattle.kernel_model.specs.KernelRecord.ValidQueues.{IsFaultPacket, IsKeyPacket, IsValidPacket, Place, is_key_packet}
 use Rattle.kernel_model.specs.KernelRecord.ValidQueues.Place.{Clock, Keyboard, Output, Pending, Work}
 use Rattle.kernel_model.proofs.KernelRecord.AllThings.{all-beside, all-between, any-between, any-here}
 use Rattle.kernel_model.proofs.KernelRecord.DataInside.{HasBlock-data}
@@ -21,8 +21,8 @@ use Rattle.kernel_model.proofs.KernelRecord.OwnedPackets.{queued-owned}
 use Rattle.kernel_model.proofs.KernelRecord.OwnerCounts.{owned-queues, owners-packet_between, owners-residents, owns-fewer, packets_count}
 use Rattle.kernel_model.proofs.KernelRecord.PacketMoves.{unqueued-unowned}
 use Rattle.kernel_model.proofs.KernelRecord.QueueCounts.{owned-queue, owners-packet}
-use Rattle.kernel_model.proofs.KernelRecord.QueuePlaces.{KeepsOrder-beside, is_queued-here, is_queued-place, place-order, place-stands, place-there, place-valid, with_packets, with_queue-key, with_queue-packets, with_queue-residents, with_queue-size}
-use Rattle.kernel_model.proofs.KernelRecord.QueuedPackets.{fault-kept, key-kept, stands_in}
+use Rattle.kernel_model.proofs.KernelRecord.QueuePlaces.{KeepsOrder-beside, is_queued-here, is_queued-place, place-order, place-there, place-valid, valid-at-place, with_packets, with_queue-key, with_queue-packets, with_queue-residents, with_queue-size}
+use Rattle.kernel_model.proofs.KernelRecord.QueuedPackets.{fault-kept, is_on_queue, key-kept}
 use Rattle.kernel_model.proofs.KernelRecord.TaskPlaces.{last-resident}
 
 -- ---- what they own while they are on no queue
@@ -65,11 +65,11 @@ module _ (l : Lists) (at : Place) (p : QueuedPacket) (front back : List QueuedPa
       plain : (m n w b c q s : ℕ) → m + b ≡ n + c → n + q ≡ w + s → m + (b + q) ≡ w + (c + s)
       plain m n w b c q s e g = omega arith
 
-  pub comes : queue_of at l ≡ front ++ back → MayStand l at p → KeepsOrder at (front ++ p ∷ back)
+  pub comes : queue_of at l ≡ front ++ back → IsValidPacket l at p → KeepsOrder at (front ++ p ∷ back)
       → is_some x ≡ (l.residents && not (is_queued key_packet (with_queue at (front ++ p ∷ back) l))) → f ≡ (has_task 2 l.tasks && not (is_queued fault_packet (with_queue at (front ++ p ∷ back) l)))
       → ((a : ℕ) → after a + owners a (packet_words p 0) ≤ before a) → AreValid (with_packets x f (with_queue at (front ++ p ∷ back) l))
-  comes is stands order key fault less =
-      place-valid l at (front ++ p ∷ back) x f v has (all-between (MayStand l at) front p back stands (subst (AllByRecursion (MayStand l at)) is (place-stands l at v has))) order key fault
+  comes is valid-packet order key fault less =
+      place-valid l at (front ++ p ∷ back) x f v has (all-between (IsValidPacket l at) front p back valid-packet (subst (AllByRecursion (IsValidPacket l at)) is (valid-at-place l at v has))) order key fault
       (owns-fewer l (with_packets x f (with_queue at (front ++ p ∷ back) l)) (with_queue-size at (front ++ p ∷ back) l)
       (λ a. plain (owners a (owned (with_packets x f (with_queue at (front ++ p ∷ back) l)))) (owners a (owned l)) (before a) (after a) (packets_count a (queue_of at l)) (packets_count a (front ++ p ∷ back)) (packets_count a (front ++ back)) (owners a (packet_words p 0))
       (count a (front ++ p ∷ back)) (ap (packets_count a) is) (owners-packet_between a front p back) (less a))
@@ -82,7 +82,7 @@ module _ (l : Lists) (at : Place) (p : QueuedPacket) (front back : List QueuedPa
       → is_some x ≡ (l.residents && not (is_queued key_packet (with_queue at (front ++ back) l))) → f ≡ (has_task 2 l.tasks && not (is_queued fault_packet (with_queue at (front ++ back) l)))
       → ((a : ℕ) → after a ≤ before a + owners a (packet_words p 0)) → AreValid (with_packets x f (with_queue at (front ++ back) l))
   goes is key fault less =
-      place-valid l at (front ++ back) x f v has (all-beside (MayStand l at) front p back (subst (AllByRecursion (MayStand l at)) is (place-stands l at v has)))
+      place-valid l at (front ++ back) x f v has (all-beside (IsValidPacket l at) front p back (subst (AllByRecursion (IsValidPacket l at)) is (valid-at-place l at v has)))
       (KeepsOrder-beside at front p back (subst (KeepsOrder at) is (place-order l at v))) key fault
       (owns-fewer l (with_packets x f (with_queue at (front ++ back) l)) (with_queue-size at (front ++ back) l)
       (λ a. plain (owners a (owned (with_packets x f (with_queue at (front ++ back) l)))) (owners a (owned l)) (before a) (after a) (packets_count a (queue_of at l)) (packets_count a (front ++ p ∷ back)) (packets_count a (front ++ back)) (owners a (packet_words p 0))
@@ -138,10 +138,10 @@ pub key_queued-valid : (l : Lists) (at : Place) (p : QueuedPacket) (front back :
     → IsKeyPacket at p → AreValid (with_key None (with_queue at (front ++ p ∷ back) l))
 key_queued-valid l at p front back v is free address k =
     subst AreValid (with_queue-key l at ps None)
-    (comes l at p front back None l.fault_packet_free v has r is stands (key-order at p ps k)
+    (comes l at p front back None l.fault_packet_free v has r is valid-packet (key-order at p ps k)
     (sym (ap (λ b. l.residents && not b) here ∙ ap (λ b. b && false) r))
     (fault-kept l (with_queue at ps l) v.queues.fault
-    (λ _. is_queued-place fault_packet l at ps v.tasks.distinct has (any-between (λ q. eqb q.address fault_packet) front p back (ap (λ a. eqb a fault_packet) address) ∙ ap (stands_in fault_packet) (sym is))))
+    (λ _. is_queued-place fault_packet l at ps v.tasks.distinct has (any-between (λ q. eqb q.address fault_packet) front p back (ap (λ a. eqb a fault_packet) address) ∙ ap (is_on_queue fault_packet) (sym is))))
     (λ a. less a l.key free))
   where
     ps : List QueuedPacket
@@ -159,8 +159,8 @@ key_queued-valid l at p front back v is free address k =
     here : is_queued key_packet (with_queue at ps l) ≡ true
     here = is_queued-here key_packet l at ps v.tasks.distinct has (any-here (λ q. eqb q.address key_packet) front p back (eq-eqb p.address key_packet address))
 
-    stands : MayStand l at p
-    stands =
+    valid-packet : IsValidPacket l at p
+    valid-packet =
         record {
           lodged = subst (λ a. AreData l.blocks a 5) (sym address) (key-lodged l v r);
           key = λ _. k;
@@ -184,7 +184,7 @@ key_unqueued-valid l at p front back v is is_key =
     (goes l at p front back (Some p.res1) l.fault_packet_free v has r is
     (sym (λ i. r i && not (nowhere i)))
     (fault-kept l (with_queue at (front ++ back) l) v.queues.fault
-    (λ _. is_queued-place fault_packet l at (front ++ back) v.tasks.distinct has (sym (any-between (λ q. eqb q.address fault_packet) front p back (ap (λ a. eqb a fault_packet) address)) ∙ ap (stands_in fault_packet) (sym is))))
+    (λ _. is_queued-place fault_packet l at (front ++ back) v.tasks.distinct has (sym (any-between (λ q. eqb q.address fault_packet) front p back (ap (λ a. eqb a fault_packet) address)) ∙ ap (is_on_queue fault_packet) (sym is))))
     (λ a. less a))
   where
     r : l.residents ≡ true
@@ -212,9 +212,9 @@ key_unqueued-valid l at p front back v is is_key =
 pub fault_queued-valid : (l : Lists) (p : QueuedPacket) (front back : List QueuedPacket) → AreValid l → queue_of (Work 2) l ≡ front ++ back → l.fault_packet_free ≡ true → p.address ≡ fault_packet
     → IsFaultPacket (Work 2) p → has_task p.sender l.tasks ≡ true → AreValid (with_fault_packet false (with_queue (Work 2) (front ++ p ∷ back) l))
 fault_queued-valid l p front back v is free address k there =
-    comes l (Work 2) p front back l.key false v has r is stands tt
+    comes l (Work 2) p front back l.key false v has r is valid-packet tt
     (key-kept l (with_queue (Work 2) ps l) v.queues.key
-    (λ _. is_queued-place key_packet l (Work 2) ps v.tasks.distinct has (any-between (λ q. eqb q.address key_packet) front p back (ap (λ a. eqb a key_packet) address) ∙ ap (stands_in key_packet) (sym is))))
+    (λ _. is_queued-place key_packet l (Work 2) ps v.tasks.distinct has (any-between (λ q. eqb q.address key_packet) front p back (ap (λ a. eqb a key_packet) address) ∙ ap (is_on_queue key_packet) (sym is))))
     (sym (ap (λ b. has_task 2 l.tasks && not b) here ∙ ap (λ b. b && false) has))
     (λ a. less a)
   where
@@ -237,8 +237,8 @@ fault_queued-valid l p front back v is free address k there =
     lodged =
         HasBlock-data l 201 114 fault_packet 5 v.blocks (subst (λ b. HasBlock l.blocks 201 (cond b 114 86)) has (v.numbers.residents r)) (omega arith) (omega arith) (omega arith)
 
-    stands : MayStand l (Work 2) p
-    stands =
+    valid-packet : IsValidPacket l (Work 2) p
+    valid-packet =
         record {
           lodged = subst (λ a. AreData l.blocks a 5) (sym address) lodged;
           key = λ e. absurd (false≢true (sym no_key ∙ e));
@@ -259,7 +259,7 @@ pub fault_unqueued-valid : (l : Lists) (p : QueuedPacket) (front back : List Que
 fault_unqueued-valid l p front back v is address =
     goes l (Work 2) p front back l.key true v has r is
     (key-kept l (with_queue (Work 2) (front ++ back) l) v.queues.key
-    (λ _. is_queued-place key_packet l (Work 2) (front ++ back) v.tasks.distinct has (sym (any-between (λ q. eqb q.address key_packet) front p back (ap (λ a. eqb a key_packet) address)) ∙ ap (stands_in key_packet) (sym is))))
+    (λ _. is_queued-place key_packet l (Work 2) (front ++ back) v.tasks.distinct has (sym (any-between (λ q. eqb q.address key_packet) front p back (ap (λ a. eqb a key_packet) address)) ∙ ap (is_on_queue key_packet) (sym is))))
     (sym (λ i. has i && not (nowhere i)))
     (λ a. less a)
   where

@@ -11,9 +11,9 @@ use Rattle.kernel_model.specs.KernelRecord.Changes.{with_coroutines}
 use Rattle.kernel_model.specs.KernelRecord.Lists.{Lists, has_task}
 use Rattle.kernel_model.specs.KernelRecord.Task.{Task, is_guest_id, task_id}
 use Rattle.kernel_model.specs.KernelRecord.ValidBlocks.{AreData, HasBlock}
-use Rattle.kernel_model.specs.KernelRecord.ValidQueues.{HasSender, MayStand, Place, is_fault_packet, is_key_packet}
+use Rattle.kernel_model.specs.KernelRecord.ValidQueues.{HasSender, IsValidPacket, Place, is_fault_packet, is_key_packet}
 use Rattle.kernel_model.specs.KernelRecord.ValidQueues.Place.{Pending, Work}
-use Rattle.kernel_model.specs.KernelRecord.ValidTasks.{CoroutinesStand, IsCoroutine, IsGuest, IsTask, PrioritiesFall, TasksStand}
+use Rattle.kernel_model.specs.KernelRecord.ValidTasks.{AreValidCoroutines, AreValidTasks, IsCoroutine, IsGuest, IsTask, PrioritiesFall}
 use Rattle.kernel_model.specs.KernelRecord.Versions.{head_words_of, highest_id_of, most_modules_of}
 use Rattle.kernel_model.proofs.KernelRecord.EachMember.{all-each}
 
@@ -88,8 +88,8 @@ pub IsTask-coroutines : (l : Lists) (t : Task) (cs : List Coroutine) → IsTask 
 IsTask-coroutines l t cs h none = IsTask-with l t t.queue (with_list cs t.coroutines) (λ is. (none is, (h.resident is).active)) h
 
 -- the same tasks
-pub TasksStand-same : (l m : Lists) → m.tasks ≡ l.tasks → m.residents ≡ l.residents → AllByRecursion (IsTask m) l.tasks → TasksStand l → TasksStand m
-TasksStand-same l m same residents each h =
+pub AreValidTasks-same : (l m : Lists) → m.tasks ≡ l.tasks → m.residents ≡ l.residents → AllByRecursion (IsTask m) l.tasks → AreValidTasks l → AreValidTasks m
+AreValidTasks-same l m same residents each h =
     record {
       each = subst (AllByRecursion (IsTask m)) (sym same) each;
       distinct = subst (λ ts. IsApart (map task_id ts)) (sym same) h.distinct;
@@ -100,13 +100,13 @@ TasksStand-same l m same residents each h =
       reporter = λ some. residents ∙ h.reporter (ap (has_task 2) (sym same) ∙ some);
     }
 
-pub CoroutinesStand-kept : (l m : Lists) (t : Task) → (AllByRecursion (IsCoroutine l) t.coroutines.list → AllByRecursion (IsCoroutine m) t.coroutines.list) → CoroutinesStand l t → CoroutinesStand m t
-CoroutinesStand-kept l m t each h = record { each = each h.each; members = h.members; distinct = h.distinct }
+pub AreValidCoroutines-kept : (l m : Lists) (t : Task) → (AllByRecursion (IsCoroutine l) t.coroutines.list → AllByRecursion (IsCoroutine m) t.coroutines.list) → AreValidCoroutines l t → AreValidCoroutines m t
+AreValidCoroutines-kept l m t each h = record { each = each h.each; members = h.members; distinct = h.distinct }
 
 -- in the same blocks
-pub CoroutinesStand-same : (l m : Lists) (t : Task) → m.blocks ≡ l.blocks → CoroutinesStand l t → CoroutinesStand m t
-CoroutinesStand-same l m t same h =
-    CoroutinesStand-kept l m t
+pub AreValidCoroutines-same : (l m : Lists) (t : Task) → m.blocks ≡ l.blocks → AreValidCoroutines l t → AreValidCoroutines m t
+AreValidCoroutines-same l m t same h =
+    AreValidCoroutines-kept l m t
     (λ all. all-each (IsCoroutine l) (IsCoroutine m) (λ c i. record { block = subst (λ bs. HasBlock bs c.address c.highest) (sym same) i.block; high = i.high }) t.coroutines.list all) h
 
 -- ---- packets
@@ -117,11 +117,11 @@ HasSender-kept l m (Work id) s keeps h = λ resident. keeps (h resident)
 HasSender-kept l m Pending s keeps h = keeps h
 HasSender-kept l m _ s keeps h = (h.0, keeps h.1)
 
-pub MayStand-kept : (l m : Lists) (at : Place) (p : QueuedPacket) → m.residents ≡ l.residents → has_task 2 m.tasks ≡ has_task 2 l.tasks
+pub IsValidPacket-kept : (l m : Lists) (at : Place) (p : QueuedPacket) → m.residents ≡ l.residents → has_task 2 m.tasks ≡ has_task 2 l.tasks
     → (AreData l.blocks p.address 5 → AreData m.blocks p.address 5)
     → (HasSender l at p.sender → HasSender m at p.sender)
-    → MayStand l at p → MayStand m at p
-MayStand-kept l m at p residents reporter lodged sender h =
+    → IsValidPacket l at p → IsValidPacket m at p
+IsValidPacket-kept l m at p residents reporter lodged sender h =
     record {
       lodged = lodged h.lodged;
       key = λ is. h.key (sym key_same ∙ is);
@@ -136,9 +136,9 @@ MayStand-kept l m at p residents reporter lodged sender h =
     fault_same = rw reporter
 
 -- where the same packets are data, and all tasks are still there
-pub MayStand-more : (l m : Lists) (at : Place) (p : QueuedPacket) → m.residents ≡ l.residents → has_task 2 m.tasks ≡ has_task 2 l.tasks
+pub IsValidPacket-more : (l m : Lists) (at : Place) (p : QueuedPacket) → m.residents ≡ l.residents → has_task 2 m.tasks ≡ has_task 2 l.tasks
     → (AreData l.blocks p.address 5 → AreData m.blocks p.address 5)
     → ((i : ℕ) → has_task i l.tasks ≡ true → has_task i m.tasks ≡ true)
-    → MayStand l at p → MayStand m at p
-MayStand-more l m at p residents reporter lodged keeps h =
-    MayStand-kept l m at p residents reporter lodged (HasSender-kept l m at p.sender (keeps p.sender)) h
+    → IsValidPacket l at p → IsValidPacket m at p
+IsValidPacket-more l m at p residents reporter lodged keeps h =
+    IsValidPacket-kept l m at p residents reporter lodged (HasSender-kept l m at p.sender (keeps p.sender)) h

@@ -6,13 +6,13 @@ use Rattle.kernel_lists.specs.PacketQueue.QueueWords.{QueuedPacket}
 use Rattle.kernel_model.specs.KernelRecord.Lists.{Lists, has_task}
 use Rattle.kernel_model.specs.KernelRecord.Owned.{owned}
 use Rattle.kernel_model.specs.KernelRecord.ValidLists.{AreValid}
-use Rattle.kernel_model.specs.KernelRecord.ValidQueues.{MayStand, Place}
+use Rattle.kernel_model.specs.KernelRecord.ValidQueues.{IsValidPacket, Place}
 use Rattle.kernel_model.specs.KernelRecord.ValidQueues.Place.{Clock, Keyboard, Output, Pending, Work}
-use Rattle.kernel_model.specs.KernelRecord.ValidTasks.{CoroutinesStand, IsTask}
+use Rattle.kernel_model.specs.KernelRecord.ValidTasks.{AreValidCoroutines, IsTask}
 use Rattle.kernel_model.proofs.KernelRecord.EachMember.{all-each}
 use Rattle.kernel_model.proofs.KernelRecord.OneTaskExchange.{running-exchange}
 use Rattle.kernel_model.proofs.KernelRecord.OwnerCounts.{owns-without}
-use Rattle.kernel_model.proofs.KernelRecord.RulesKept.{CoroutinesStand-same, IsTask-kept, MayStand-more, TasksStand-same}
+use Rattle.kernel_model.proofs.KernelRecord.RulesKept.{AreValidCoroutines-same, AreValidTasks-same, IsTask-kept, IsValidPacket-more}
 
 abbrev pub with_running : ℕ → Lists → Lists
 with_running id l = record l { running = id }
@@ -26,12 +26,12 @@ running-valid l id v some =
       blocks = v.blocks;
       numbers = record { version = v.numbers.version; size = v.numbers.size; period = v.numbers.period; residents = v.numbers.residents };
       modules = v.modules;
-      tasks = TasksStand-same l m refl refl (all-each (IsTask l) (IsTask m) (λ t h. IsTask-kept l m t refl refl (λ h. h) (λ _ u h. h) h) l.tasks v.tasks.each) v.tasks;
-      coroutines = all-each (CoroutinesStand l) (CoroutinesStand m) (λ t h. CoroutinesStand-same l m t refl h) l.tasks v.coroutines;
+      tasks = AreValidTasks-same l m refl refl (all-each (IsTask l) (IsTask m) (λ t h. IsTask-kept l m t refl refl (λ h. h) (λ _ u h. h) h) l.tasks v.tasks.each) v.tasks;
+      coroutines = all-each (AreValidCoroutines l) (AreValidCoroutines m) (λ t h. AreValidCoroutines-same l m t refl h) l.tasks v.coroutines;
       queues =
           record {
             tasks =
-                all-each (λ t. AllByRecursion (MayStand l (Work t.id)) t.queue) (λ t. AllByRecursion (MayStand m (Work t.id)) t.queue)
+                all-each (λ t. AllByRecursion (IsValidPacket l (Work t.id)) t.queue) (λ t. AllByRecursion (IsValidPacket m (Work t.id)) t.queue)
                 (λ t all. stay (Work t.id) t.queue all) l.tasks v.queues.tasks;
             clock = stay Clock l.clock v.queues.clock;
             keyboard = stay Keyboard l.keyboard v.queues.keyboard;
@@ -49,5 +49,5 @@ running-valid l id v some =
     m : Lists
     m = with_running id l
 
-    stay : (at : Place) (ps : List QueuedPacket) → AllByRecursion (MayStand l at) ps → AllByRecursion (MayStand m at) ps
-    stay at ps all = all-each (MayStand l at) (MayStand m at) (λ p h. MayStand-more l m at p refl refl (λ d. d) (λ i some. some) h) ps all
+    stay : (at : Place) (ps : List QueuedPacket) → AllByRecursion (IsValidPacket l at) ps → AllByRecursion (IsValidPacket m at) ps
+    stay at ps all = all-each (IsValidPacket l at) (IsValidPacket m at) (λ p h. IsValidPacket-more l m at p refl refl (λ d. d) (λ i some. some) h) ps all

@@ -49,22 +49,22 @@ module _ (l : Lists) (u : ℕ) (run : Run) (v : AreValid l) (first : first_run (
   abbrev after_take : List Block
   after_take = taken (need u) l.blocks
 
-  stands : Tiles (store_of l.blocks end) 200 l.blocks
-  stands = store-Tiles 200 l.blocks end v.blocks
+  tiles : Tiles (store_of l.blocks end) 200 l.blocks
+  tiles = store-Tiles 200 l.blocks end v.blocks
 
   found : FoundRun (store_of l.blocks end) (need u) 200 run
-  found = first_run-found (store_of l.blocks end) (need u) 200 l.blocks run stands first
+  found = first_run-found (store_of l.blocks end) (need u) 200 l.blocks run tiles first
 
   split : TakeSplit (need u) l.blocks after_take run
-  split = take_split (store_of l.blocks end) (need u) 200 l.blocks run stands first
+  split = take_split (store_of l.blocks end) (need u) 200 l.blocks run tiles first
 
   new : (used_at (run.start + 1) after_take ≡ Some (used_block run.start (need u))) × (used_at (run.start + 1) l.blocks ≡ None)
-  new = used_at-taken (store_of l.blocks end) (need u) 200 l.blocks run stands first
+  new = used_at-taken (store_of l.blocks end) (need u) 200 l.blocks run tiles first
 
   follow : Follow 200 after_take end
   follow =
       Tiles-Follow (taken_store (store_of l.blocks end) run (need u)) 200 after_take end
-      (taken-Tiles (store_of l.blocks end) (need u) 200 l.blocks run (need-even u).0 (need-even u).1 stands first)
+      (taken-Tiles (store_of l.blocks end) (need u) 200 l.blocks run (need-even u).0 (need-even u).1 tiles first)
       (length-with_size_words (store_of l.blocks end) (split_run run.start run.end (need u)) ∙ length-store l.blocks end)
 
   -- used blocks are still used

@@ -7,7 +7,7 @@ use Rattle.kernel_model.specs.KernelRecord.Lists.{Lists, has_task}
 use Rattle.kernel_model.specs.KernelRecord.Task.{Task, filled, further_modules, is_guest_id}
 use Rattle.kernel_model.specs.KernelRecord.ValidBlocks.{HasBlock, last_resident_word}
 use Rattle.kernel_model.specs.KernelRecord.ValidLists.{AreValid}
-use Rattle.kernel_model.specs.KernelRecord.ValidTasks.{IsGuest, IsResident, IsTask, TasksStand}
+use Rattle.kernel_model.specs.KernelRecord.ValidTasks.{AreValidTasks, IsGuest, IsResident, IsTask}
 use Rattle.kernel_model.specs.KernelRecord.Versions.{head_words_of, highest_id_of}
 use Rattle.kernel_model.proofs.KernelRecord.EachMember.{all-both, all-each}
 use Rattle.kernel_model.proofs.KernelRecord.RootCounts.{head-low, highest-low, length-filled}
@@ -42,9 +42,9 @@ guest-place l t guest g =
 pub last-resident : (l : Lists) → 86 ≤ last_resident_word l
 last-resident l = elim (has_task 2 l.tasks) as (λ b. 86 ≤ cond b 114 86) [ true ↦ omega arith | false ↦ omega arith ]
 
-resident-place : (l : Lists) (t : Task) → TasksStand l → (l.residents ≡ true → HasBlock l.blocks 201 (last_resident_word l)) → has_task t.id l.tasks ≡ true
+resident-place : (l : Lists) (t : Task) → AreValidTasks l → (l.residents ≡ true → HasBlock l.blocks 201 (last_resident_word l)) → has_task t.id l.tasks ≡ true
     → is_guest_id t.id ≡ false → IsResident t → TaskPlace l t
-resident-place l t stand block here resident r = on (eqb t.id 1) refl (eqb t.id 2) refl (eqb t.id 3) refl (eqb t.id 4) refl r.place
+resident-place l t valid-tasks block here resident r = on (eqb t.id 1) refl (eqb t.id 2) refl (eqb t.id 3) refl (eqb t.id 4) refl r.place
   where
     last : ℕ
     last = last_resident_word l
@@ -75,17 +75,17 @@ resident-place l t stand block here resident r = on (eqb t.id 1) refl (eqb t.id 
         → ◌≡◌ {A = Option (ℕ × ℕ)} (cond a (Some (201, 1000)) (cond b (Some (287, 3000)) (cond c (Some (224, 6000)) (cond d (Some (247, 5000)) None)))) (Some (t.address, t.priority)) → TaskPlace l t
     on true i b j c k d m e =
         let same : t.id ≡ 1 = eqb-true t.id 1 i in
-        at (sym stand.shell ∙ has 1 same) (omega (arith, same)) (omega (arith, same)) (omega (arith, address 201 1000 e)) (omega (arith, address 201 1000 e, last-resident l))
+        at (sym valid-tasks.shell ∙ has 1 same) (omega (arith, same)) (omega (arith, same)) (omega (arith, address 201 1000 e)) (omega (arith, address 201 1000 e, last-resident l))
     on false i true j c k d m e =
         let same : t.id ≡ 2 = eqb-true t.id 2 j in
         let more : last ≡ 114 = ap (λ b. cond b 114 86) (has 2 same) in
-        at (stand.reporter (has 2 same)) (omega (arith, same)) (omega (arith, same)) (omega (arith, address 287 3000 e)) (omega (arith, address 287 3000 e, more))
+        at (valid-tasks.reporter (has 2 same)) (omega (arith, same)) (omega (arith, same)) (omega (arith, address 287 3000 e)) (omega (arith, address 287 3000 e, more))
     on false i false j true k d m e =
         let same : t.id ≡ 3 = eqb-true t.id 3 k in
-        at (sym stand.console ∙ has 3 same) (omega (arith, same)) (omega (arith, same)) (omega (arith, address 224 6000 e)) (omega (arith, address 224 6000 e, last-resident l))
+        at (sym valid-tasks.console ∙ has 3 same) (omega (arith, same)) (omega (arith, same)) (omega (arith, address 224 6000 e)) (omega (arith, address 224 6000 e, last-resident l))
     on false i false j false k true m e =
         let same : t.id ≡ 4 = eqb-true t.id 4 m in
-        at (sym stand.files ∙ has 4 same) (omega (arith, same)) (omega (arith, same)) (omega (arith, address 247 5000 e)) (omega (arith, address 247 5000 e, last-resident l))
+        at (sym valid-tasks.files ∙ has 4 same) (omega (arith, same)) (omega (arith, same)) (omega (arith, address 247 5000 e)) (omega (arith, address 247 5000 e, last-resident l))
     on false i false j false k false m e = cc
 
 -- each task's number is one of the list's

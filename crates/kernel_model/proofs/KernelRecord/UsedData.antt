@@ -23,9 +23,9 @@ use Rattle.kernel_model.specs.KernelRecord.Task.{Task, further_modules, task_add
 use Rattle.kernel_model.specs.KernelRecord.UsedData.{IsUsedData}
 use Rattle.kernel_model.specs.KernelRecord.ValidBlocks.{AreData, HasBlock, last_module_word, last_resident_word}
 use Rattle.kernel_model.specs.KernelRecord.ValidLists.{AreValid}
-use Rattle.kernel_model.specs.KernelRecord.ValidQueues.{MayStand, Place}
+use Rattle.kernel_model.specs.KernelRecord.ValidQueues.{IsValidPacket, Place}
 use Rattle.kernel_model.specs.KernelRecord.ValidQueues.Place.{Pending, Work}
-use Rattle.kernel_model.specs.KernelRecord.ValidTasks.{CoroutinesStand, IsCoroutine}
+use Rattle.kernel_model.specs.KernelRecord.ValidTasks.{AreValidCoroutines, IsCoroutine}
 use Rattle.word_store.proofs.Elements.{find-passes}
 use Rattle.kernel_model.proofs.KernelRecord.EachMember.{all-both, all-each, linked-each}
 use Rattle.kernel_model.proofs.KernelRecord.FollowedBlocks.{found-holding}
@@ -83,15 +83,15 @@ module _ (bs : List Block) (end : ℕ) (follow : Follow 200 bs end) where
       block-data m.address (last_module_word m) a b (range-low a m.address k within) (omega (arith, range-high a m.address k within))
 
 -- what may stand in a queue is lodged
-pub lodged : (l : Lists) (at : Place) (ps : List QueuedPacket) → AllByRecursion (MayStand l at) ps → AllByRecursion (λ p. AreData l.blocks p.address 5) ps
-lodged l at ps all = all-each (MayStand l at) (λ p. AreData l.blocks p.address 5) (λ p may. may.lodged) ps all
+pub lodged : (l : Lists) (at : Place) (ps : List QueuedPacket) → AllByRecursion (IsValidPacket l at) ps → AllByRecursion (λ p. AreData l.blocks p.address 5) ps
+lodged l at ps all = all-each (IsValidPacket l at) (λ p. AreData l.blocks p.address 5) (λ p may. may.lodged) ps all
 
 module _ (l : Lists) (v : AreValid l) where
   abbrev end : ℕ
   end = l.size - 2
 
-  pub task-data : (t : Task) (a n : ℕ) → TaskPlace l t → CoroutinesStand l t → AllByRecursion (MayStand l (Work t.id)) t.queue → 0 < owners a (task_words l.version t n) → IsUsedData l.blocks a
-  task-data t a n p stand may some = head (cases_lt 0 (times a (range_with_len t.address 23)))
+  pub task-data : (t : Task) (a n : ℕ) → TaskPlace l t → AreValidCoroutines l t → AllByRecursion (IsValidPacket l (Work t.id)) t.queue → 0 < owners a (task_words l.version t n) → IsUsedData l.blocks a
+  task-data t a n p valid-coroutines may some = head (cases_lt 0 (times a (range_with_len t.address 23)))
     where
       k : ℕ
       k = length (further_modules l.version t)
@@ -103,7 +103,7 @@ module _ (l : Lists) (v : AreValid l) where
       last none own =
           linked-each (IsUsedData l.blocks) coroutine_address (coroutine_words t.address t.coroutines.active) t.coroutines.list 0 a
           (all-each (IsCoroutine l) (λ c. (n : ℕ) → 0 < owners a (coroutine_words t.address t.coroutines.active c n) → IsUsedData l.blocks a)
-          (λ c is n own. coroutine-data l.blocks end v.blocks t.address t.coroutines.active c a n is.block is.high own) t.coroutines.list stand.each) own
+          (λ c is n own. coroutine-data l.blocks end v.blocks t.address t.coroutines.active c a n is.block is.high own) t.coroutines.list valid-coroutines.each) own
 
       lists : 0 < owners a (packets_of t) + owners a (frames_of t) → IsUsedData l.blocks a
       lists own =
@@ -126,10 +126,10 @@ module _ (l : Lists) (v : AreValid l) where
   pub tasks-data : (a : ℕ) → 0 < owners a (linked_words task_address (task_words l.version) l.tasks 0) → IsUsedData l.blocks a
   tasks-data a some =
       linked-each (IsUsedData l.blocks) task_address (task_words l.version) l.tasks 0 a
-      (all-each (λ t. (TaskPlace l t × CoroutinesStand l t) × AllByRecursion (MayStand l (Work t.id)) t.queue) (λ t. (n : ℕ) → 0 < owners a (task_words l.version t n) → IsUsedData l.blocks a)
+      (all-each (λ t. (TaskPlace l t × AreValidCoroutines l t) × AllByRecursion (IsValidPacket l (Work t.id)) t.queue) (λ t. (n : ℕ) → 0 < owners a (task_words l.version t n) → IsUsedData l.blocks a)
       (λ t h n own. task-data t a n h.0.0 h.0.1 h.1 own) l.tasks
-      (all-both (λ t. TaskPlace l t × CoroutinesStand l t) (λ t. AllByRecursion (MayStand l (Work t.id)) t.queue) l.tasks
-      (all-both (TaskPlace l) (CoroutinesStand l) l.tasks (task-places l v) v.coroutines) v.queues.tasks)) some
+      (all-both (λ t. TaskPlace l t × AreValidCoroutines l t) (λ t. AllByRecursion (IsValidPacket l (Work t.id)) t.queue) l.tasks
+      (all-both (TaskPlace l) (AreValidCoroutines l) l.tasks (task-places l v) v.coroutines) v.queues.tasks)) some
 
   pub modules-data : (a : ℕ) → 0 < owners a (linked_words module_address module_words l.modules 0) → IsUsedData l.blocks a
   modules-data a some =

@@ -98,7 +98,7 @@ module _ (s : List ℕ) (l : Lists) (i : HoldsLists s l) where
   counts-read = holds-each module_address module_words s (HasCount s) (λ m n h. h.1.0) l.modules 0 parts.modules.1
 
   list-walk : (head : ℕ) (ps : List QueuedPacket) → HeldQueue s head ps → HasQueue s head
-  list-walk head ps h = (held-queue s head ps h).stands
+  list-walk head ps h = (held-queue s head ps h).valid
 
   module-inside : (m : LoadedModule) (n : ℕ) → Holds s (module_words m n) → AreInside s (module_words m n) → IsModuleIn s m.address
   module-inside m n h inside =
@@ -119,7 +119,7 @@ module _ (s : List ℕ) (l : Lists) (i : HoldsLists s l) where
 
   task-walk : (t : Task) → HeldQueue s (queue_head t.address) t.queue → HoldsCoroutines s t.address t.coroutines → CanWalkTask s t.address
   task-walk t queue co =
-      let list = (held-coroutines s t.address t.coroutines.active t.coroutines.list co.coroutines).stand in
+      let list = (held-coroutines s t.address t.coroutines.active t.coroutines.list co.coroutines).valid in
       record {
         inside = list.list.head_inside;
         queue = list-walk (queue_head t.address) t.queue queue;
@@ -134,7 +134,7 @@ module _ (s : List ℕ) (l : Lists) (i : HoldsLists s l) where
         module_words = subst (AllByRecursion (IsModuleIn s)) (sym modules.list) (all-addresses module_address (IsModuleIn s) l.modules
             (modules-inside l.modules 0 parts.modules.1 (λ a some. reads.modules.held.inside a (omega (arith, some)))));
         chain = can_walk s task_link task_size first_task reads.tasks.tasks.chain;
-        modules = can_walk s module_link module_size 104 modules.stands;
+        modules = can_walk s module_link module_size 104 modules.valid;
         tasks = subst (AllByRecursion (CanWalkTask s)) (sym reads.tasks.chain) (all-addresses task_address (CanWalkTask s) l.tasks
             (all-each _ (λ t. CanWalkTask s t.address) (λ t both. task-walk t both.0 both.1) l.tasks (all-both _ _ l.tasks reads.work reads.coroutines)));
         clock = list-walk clock_head l.clock reads.clock;

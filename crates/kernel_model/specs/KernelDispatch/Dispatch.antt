@@ -9,7 +9,7 @@ use Rattle.kernel_lists.specs.PacketQueue.Queue.{no_queue}
 use Rattle.kernel_lists.specs.PacketQueue.QueueWords.{QueuedPacket, address_of}
 use Rattle.kernel_lists.specs.declared.packet_queue.events.KernelEvent.{KernelEvent}
 use Rattle.kernel_lists.specs.declared.packet_queue.events.KernelEvent.TheVariants.{Runs, Taken}
-use Rattle.kernel_model.specs.KernelRecord.Between.{RegistersStand, is_ready}
+use Rattle.kernel_model.specs.KernelRecord.Between.{AreValidRegisters, is_ready}
 use Rattle.kernel_model.specs.KernelRecord.Changes.{with_task}
 use Rattle.kernel_model.specs.KernelRecord.Lists.{Lists}
 use Rattle.kernel_model.specs.KernelRecord.Running.{RunsAlone}
@@ -146,4 +146,4 @@ pub record CanDispatch (l : Lists) (r : Regs) : Type 0 where
   -- no task but the running one has the field of one that runs
   pub field : RunsAlone l
   -- C is a byte, and where no guest runs all registers are 0
-  pub registers : RegistersStand l r
+  pub registers : AreValidRegisters l r

@@ -9,7 +9,7 @@ use Rattle.kernel_model.specs.KernelRecord.Changes.{work_of}
 use Rattle.kernel_model.specs.KernelRecord.Kernel.{Console, Kernel, Mode, Shell, no_command, no_line}
 use Rattle.kernel_model.specs.KernelRecord.Kernel.Mode.{Prompt, Reading, Typing, Waiting}
 use Rattle.kernel_model.specs.KernelRecord.Lists.{Lists, has_task}
-use Rattle.kernel_model.specs.KernelRecord.Pipes.{PipesStand}
+use Rattle.kernel_model.specs.KernelRecord.Pipes.{AreValidPipes}
 use Rattle.kernel_model.specs.KernelRecord.Residents.{fault_packet}
 use Rattle.kernel_model.specs.KernelRecord.Running.{RunsAlive, RunsAlone}
 use Rattle.kernel_model.specs.KernelRecord.Task.{Task, is_guest_id}
@@ -41,7 +41,7 @@ pub record FirstRuns (l : Lists) : Type 0 where
   pub alive : RunsAlive l
 
 -- C is a byte, and where no guest runs all registers are 0
-pub record RegistersStand (l : Lists) (r : Regs) : Type 0 where
+pub record AreValidRegisters (l : Lists) (r : Regs) : Type 0 where
   -- C is a byte, whoever runs
   pub byte : r.c < 256
   -- all of them are 0 where a resident runs, or nobody
@@ -63,7 +63,7 @@ Tells ts p = (p.address == fault_packet) ≡ true → has_unreported p.sender ts
 
 -- Where a task reports faults, the fault packet is on its queue exactly where some fault was not reported yet, sent by a guest
 -- with such a fault.
-pub record FaultsStand (l : Lists) : Type 0 where
+pub record AreValidFaults (l : Lists) : Type 0 where
   -- the packet is free exactly where each fault was reported
   pub waits : has_task 2 l.tasks ≡ true → l.fault_packet_free ≡ not (list_any is_unreported l.tasks)
   -- it is from a guest whose fault was not reported yet
@@ -72,7 +72,7 @@ pub record FaultsStand (l : Lists) : Type 0 where
 -- ---- the console
 
 -- The console's line is finished exactly where its key packet is on no queue, and then no read waits for a line.
-pub record ConsoleStands (l : Lists) (c : Console) : Type 0 where
+pub record IsValidConsole (l : Lists) (c : Console) : Type 0 where
   -- the line is finished exactly while the key packet is on no queue
   pub finished : l.residents ≡ true → c.finished ≡ is_some l.key
   -- no read waits while a line is finished
@@ -99,7 +99,7 @@ IsAwaited highest (Waiting id) = (5 ≤ id) × (id ≤ highest)
 IsAwaited highest Typing = Unit {0}
 
 -- The shell's stream is open exactly while it types a file, and a task for which it waits has the number of a guest.
-pub record ShellStands (l : Lists) (s : Shell) (d : Disc) : Type 0 where
+pub record IsValidShell (l : Lists) (s : Shell) (d : Disc) : Type 0 where
   -- stream 17 is open exactly while the shell types a file
   pub typing : is_some (stream_at d shell_stream) ≡ is_typing s.mode
   -- a task for which the shell waits has the number of a guest
@@ -116,7 +116,7 @@ abbrev pub AreShut : List (Option Stream) → Type 0
 AreShut ss = AllByRecursion (λ s. is_none s ≡ true) ss
 
 -- The disc is a disc, of which no stream is open without residents.
-pub record DiscStands (l : Lists) (d : Disc) : Type 0 where
+pub record IsValidDisc (l : Lists) (d : Disc) : Type 0 where
   -- it is a valid one
   pub valid : IsDisc d
   -- without residents no stream of it is open
@@ -125,16 +125,16 @@ pub record DiscStands (l : Lists) (d : Disc) : Type 0 where
 -- ---- all of them
 
 -- What residents keep, and what is typed ahead for them.
-pub record ResidentsStand (k : Kernel) : Type 0 where
+pub record AreValidResidents (k : Kernel) : Type 0 where
   -- the fault packet
-  pub faults : FaultsStand k.lists
+  pub faults : AreValidFaults k.lists
   -- the console's line
-  pub console : ConsoleStands k.lists k.console
+  pub console : IsValidConsole k.lists k.console
   -- what the shell does, and its line
-  pub shell : ShellStands k.lists k.shell k.disc
+  pub shell : IsValidShell k.lists k.shell k.disc
   -- the files, and the open streams
-  pub disc : DiscStands k.lists k.disc
+  pub disc : IsValidDisc k.lists k.disc
   -- the pipes
-  pub pipes : PipesStand k.lists k.pipes
+  pub pipes : AreValidPipes k.lists k.pipes
   -- at most 128 bytes are typed ahead
   pub ahead : length k.type_ahead ≤ 128

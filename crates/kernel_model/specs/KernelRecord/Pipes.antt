@@ -41,7 +41,7 @@ pub record ArePipes (ps : List (Option Pipe)) : Type 0 where
   pub distinct : (i j : ℕ) (p q : Pipe) → pipe_at ps i ≡ Some p → pipe_at ps j ≡ Some q → p.name ≡ q.name → i ≡ j
 
 -- without residents, and in version 1, there are none
-pub record PipesStand (l : Lists) (ps : List (Option Pipe)) : Type 0 where
+pub record AreValidPipes (l : Lists) (ps : List (Option Pipe)) : Type 0 where
   -- they are pipes
   pub pipes : ArePipes ps
   -- without residents there is none

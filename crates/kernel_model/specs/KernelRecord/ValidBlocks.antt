@@ -39,7 +39,7 @@ last_resident_word l = if has_task 2 l.tasks then 114 else 86
 
 -- Invariants 2 and 3: the version, the size of the store and the period are those that a session may name, and the residents have
 -- the first block.
-pub record NumbersStand (l : Lists) : Type 0 where
+pub record AreValidNumbers (l : Lists) : Type 0 where
   -- the version is 1 or 2
   pub version : IsVersion l.version
   -- the words of the store
@@ -54,5 +54,5 @@ abbrev pub last_module_word : LoadedModule → ℕ
 last_module_word m = 1 + length m.lengths + sum m.lengths
 
 -- Invariant 4: each module has a block of its size.
-abbrev pub ModulesStand : Lists → Type 0
-ModulesStand l = AllByRecursion (λ m. HasBlock l.blocks m.address (last_module_word m)) l.modules
+abbrev pub AreValidModules : Lists → Type 0
+AreValidModules l = AllByRecursion (λ m. HasBlock l.blocks m.address (last_module_word m)) l.modules

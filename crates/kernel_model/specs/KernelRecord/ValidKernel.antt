@@ -1,7 +1,7 @@
 -- A valid kernel.
 use Rattle.std.specs.Prelude.{◌≡◌, ◌/◌, ◌≤◌, None}
 use Rattle.std.specs.List.{AllByRecursion}
-use Rattle.kernel_model.specs.KernelRecord.Between.{FirstRuns, RegistersStand, ResidentsStand}
+use Rattle.kernel_model.specs.KernelRecord.Between.{AreValidRegisters, AreValidResidents, FirstRuns}
 use Rattle.kernel_model.specs.KernelRecord.Image.{HasPlainWords}
 use Rattle.kernel_model.specs.KernelRecord.Kernel.{Kernel}
 use Rattle.kernel_model.specs.KernelRecord.Ranges.{most_steps}
@@ -25,8 +25,8 @@ pub record IsValid (k : Kernel) : Type 0 where
   -- where it has not stopped, the first ready task runs
   pub running : k.stop ≡ None → FirstRuns k.lists
   -- the registers
-  pub registers : RegistersStand k.lists k.regs
+  pub registers : AreValidRegisters k.lists k.regs
   -- what residents keep
-  pub residents : ResidentsStand k
+  pub residents : AreValidResidents k
   -- the steps, and those of keys
   pub steps : HasSteps k

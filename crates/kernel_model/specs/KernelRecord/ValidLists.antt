@@ -41,23 +41,23 @@
 use Rattle.std.specs.List.{AllByRecursion}
 use Rattle.kernel_model.specs.KernelRecord.Lists.{Lists}
 use Rattle.kernel_model.specs.KernelRecord.Owned.{OwnsApart}
-use Rattle.kernel_model.specs.KernelRecord.ValidBlocks.{BlocksTile, NumbersStand, ModulesStand}
-use Rattle.kernel_model.specs.KernelRecord.ValidQueues.{QueuesStand}
-use Rattle.kernel_model.specs.KernelRecord.ValidTasks.{CoroutinesStand, TasksStand}
+use Rattle.kernel_model.specs.KernelRecord.ValidBlocks.{BlocksTile, AreValidNumbers, AreValidModules}
+use Rattle.kernel_model.specs.KernelRecord.ValidQueues.{AreValidQueues}
+use Rattle.kernel_model.specs.KernelRecord.ValidTasks.{AreValidCoroutines, AreValidTasks}
 
 -- the lists satisfy all of these invariants
 pub record AreValid (l : Lists) : Type 0 where
   -- invariant 1
   pub blocks : BlocksTile l
   -- invariants 2 and 3
-  pub numbers : NumbersStand l
+  pub numbers : AreValidNumbers l
   -- invariant 4
-  pub modules : ModulesStand l
+  pub modules : AreValidModules l
   -- invariants 5 to 12
-  pub tasks : TasksStand l
+  pub tasks : AreValidTasks l
   -- invariants 13 and 14
-  pub coroutines : AllByRecursion (CoroutinesStand l) l.tasks
+  pub coroutines : AllByRecursion (AreValidCoroutines l) l.tasks
   -- invariants 15 to 23
-  pub queues : QueuesStand l
+  pub queues : AreValidQueues l
   -- invariants 24 and 25
   pub owns : OwnsApart l

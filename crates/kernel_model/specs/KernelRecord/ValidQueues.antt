@@ -58,7 +58,7 @@ pub record IsKeyPacket (at : Place) (p : QueuedPacket) : Type 0 where
   pub last : p.last ≡ 0
 
 -- Invariant 18: the fault packet is on the work queue of the task that reports faults. Who sends it is a matter of invariant 16, and
--- between steps of FaultsStand.
+-- between steps of AreValidFaults.
 pub record IsFaultPacket (at : Place) (p : QueuedPacket) : Type 0 where
   -- where it is
   pub place : at ≡ Work 2
@@ -70,7 +70,7 @@ pub record IsFaultPacket (at : Place) (p : QueuedPacket) : Type 0 where
   pub last : p.last ≡ 0
 
 -- Invariants 15 to 18: a packet may be there.
-pub record MayStand (l : Lists) (at : Place) (p : QueuedPacket) : Type 0 where
+pub record IsValidPacket (l : Lists) (at : Place) (p : QueuedPacket) : Type 0 where
   -- invariant 15
   pub lodged : AreData l.blocks p.address 5
   -- invariant 17
@@ -86,17 +86,17 @@ NeverFall [] = Unit {0}
 NeverFall (p ∷ ps) = AllByRecursion (λ q. p.last ≤ q.last) ps × NeverFall ps
 
 -- Invariants 15 to 23.
-pub record QueuesStand (l : Lists) : Type 0 where
+pub record AreValidQueues (l : Lists) : Type 0 where
   -- invariants 15 to 18 of the work queues
-  pub tasks : AllByRecursion (λ t. AllByRecursion (MayStand l (Work t.id)) t.queue) l.tasks
+  pub tasks : AllByRecursion (λ t. AllByRecursion (IsValidPacket l (Work t.id)) t.queue) l.tasks
   -- and of the clock's queue
-  pub clock : AllByRecursion (MayStand l Clock) l.clock
+  pub clock : AllByRecursion (IsValidPacket l Clock) l.clock
   -- of the keyboard's
-  pub keyboard : AllByRecursion (MayStand l Keyboard) l.keyboard
+  pub keyboard : AllByRecursion (IsValidPacket l Keyboard) l.keyboard
   -- of the output's
-  pub output : AllByRecursion (MayStand l Output) l.output
+  pub output : AllByRecursion (IsValidPacket l Output) l.output
   -- and of the reads that wait for a line
-  pub pending : AllByRecursion (MayStand l Pending) l.pending
+  pub pending : AllByRecursion (IsValidPacket l Pending) l.pending
   -- invariant 19
   pub due : NeverFall l.clock
   -- invariant 20

@@ -125,7 +125,7 @@ PrioritiesFall (t ∷ ts) = AllByRecursion (λ u. u.priority < t.priority) ts ×
 
 -- Invariants 5 to 12: numbers are distinct and priorities fall, and the residents are there, or none of them is; the reporter of
 -- faults may be absent.
-pub record TasksStand (l : Lists) : Type 0 where
+pub record AreValidTasks (l : Lists) : Type 0 where
   -- invariants 8 to 12
   pub each : AllByRecursion (IsTask l) l.tasks
   -- invariant 5
@@ -149,7 +149,7 @@ pub record IsCoroutine (l : Lists) (c : Coroutine) : Type 0 where
   pub high : 16 ≤ c.highest
 
 -- Invariants 13 and 14: each coroutine has its block, and the active ones are distinct coroutines of the task.
-pub record CoroutinesStand (l : Lists) (t : Task) : Type 0 where
+pub record AreValidCoroutines (l : Lists) (t : Task) : Type 0 where
   -- invariant 13
   pub each : AllByRecursion (IsCoroutine l) t.coroutines.list
   -- each active one is in the task's list

@@ -20,9 +20,9 @@ ghost use Rattle.kernel_model.specs.KernelRecord.Residents.{fault_packet, key_pa
 ghost use Rattle.kernel_model.specs.KernelRecord.Task.{Task, is_guest_id, task_words};
 ghost use Rattle.kernel_model.specs.KernelRecord.ValidBlocks.{HasBlock, last_module_word};
 ghost use Rattle.kernel_model.specs.KernelRecord.ValidLists.{AreValid};
-ghost use Rattle.kernel_model.specs.KernelRecord.ValidQueues.{IsFaultPacket, IsKeyPacket, MayStand, Place, is_fault_packet, is_key_packet};
+ghost use Rattle.kernel_model.specs.KernelRecord.ValidQueues.{IsFaultPacket, IsKeyPacket, IsValidPacket, Place, is_fault_packet, is_key_packet};
 ghost use Rattle.kernel_model.specs.KernelRecord.ValidQueues.Place.{Work};
-ghost use Rattle.kernel_model.specs.KernelRecord.ValidTasks.{CoroutinesStand, IsCoroutine, IsTask};
+ghost use Rattle.kernel_model.specs.KernelRecord.ValidTasks.{AreValidCoroutines, IsCoroutine, IsTask};
 ghost use Rattle.kernel_model.specs.KernelRecord.Versions.{head_words_of};
 
 /// A block is taken: the lists are valid with it, its data begin after the front of the run, and nobody owns them.
@@ -52,7 +52,7 @@ pub fn users_law()
 /// A task's words change, but for its number, its priority, its queue and which coroutines it has.
 pub fn same_task_law()
     ensures { (l : Lists) (front back : List Task) (t u : Task) → AreValid l
-        → l.tasks ≡ front ++ t ∷ back → SameTask t u → IsTask l u → CoroutinesStand l u
+        → l.tasks ≡ front ++ t ∷ back → SameTask t u → IsTask l u → AreValidCoroutines l u
         → AreValid (with_tasks (front ++ u ∷ back) l) }
 {}
 
@@ -69,7 +69,7 @@ pub fn moved_task_law()
 pub fn queued_law()
     ensures { (l : Lists) (at : Place) (p : QueuedPacket) (front back : List QueuedPacket)
         → AreValid l → HasPlace l at → queue_of at l ≡ front ++ back
-        → MayStand l at p → AreUnowned l p.address (p.address + 5)
+        → IsValidPacket l at p → AreUnowned l p.address (p.address + 5)
         → KeepsOrder at (front ++ p ∷ back)
         → AreValid (with_queue at (front ++ p ∷ back) l) }
 {}

@@ -107,10 +107,10 @@ module _ (b : Start) (t : List ℕ) (tells : List ℕ → Type 0) (room : ℕ) (
 
       module _ (answer : Result ℕ ℕ) (bytes : List ℕ) (serves : service answer r.first bytes ≡ line_service v m c.line r) (w : List ℕ) (is_w : w ≡ with_bytes v r.first 0 bytes) where
         hand-written : HasWritten v w m r r.first bytes
-        hand-written = written-then v w m r (service answer r.first bytes) hand-keeper.lists y.stands (subst (CanServe v m r) (sym serves) (line-fits v m c.line r)) is_w
+        hand-written = written-then v w m r (service answer r.first bytes) hand-keeper.lists y.has_request (subst (CanServe v m r) (sym serves) (line-fits v m c.line r)) is_w
 
-        pub hand-stands : HasRequest w m r
-        hand-stands = hand-written.stands
+        pub hand-request : HasRequest w m r
+        hand-request = hand-written.has_request
 
         pub hand-kept : HasKeeper w told after m
         hand-kept = keeper-written v w told after m r (service answer r.first bytes) hand-keeper hand-written

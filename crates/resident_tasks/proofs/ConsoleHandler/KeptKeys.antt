@@ -14,7 +14,7 @@ use Rattle.resident_tasks.specs.ResidentRequests.Answers.{finished_by}
 use Rattle.resident_tasks.specs.ResidentRequests.Requests.{first_request, taken_from, words_taken_from, work}
 use Rattle.resident_tasks.specs.declared.resident_requests.requests.Request.{Request}
 use Rattle.resident_tasks.specs.declared.console_handler.requests.TheConstants.{READ_LINE}
-use Rattle.resident_tasks.specs.ConsoleHandler.ConsoleTurn.{KeysStand, all_parts, ended, key_of, keys_sent, treated, with_key, with_keys_taken, with_first, with_keyed, with_keys_sent, with_request, with_taken}
+use Rattle.resident_tasks.specs.ConsoleHandler.ConsoleTurn.{LineFits, all_parts, ended, key_of, keys_sent, treated, with_key, with_keys_taken, with_first, with_keyed, with_keys_sent, with_request, with_taken}
 use Rattle.resident_tasks.specs.ConsoleHandler.Deliveries.{delivered, delivery, handed, line_after, line_service, with_read}
 use Rattle.resident_tasks.specs.ConsoleHandler.KeyPacket.{keys_taken, keys_taken_from}
 use Rattle.resident_tasks.specs.ConsoleHandler.Line.{Keyed, key}
@@ -100,24 +100,24 @@ delivered-served (p ∷ ps) g is off = served-or ps g off (delivered-served ps (
 
 -- ---- the key packet
 
-sent-stand : (g : Progress) → AreServed g → KeysStand (with_keys_sent g).lists (with_keys_sent g).console
-sent-stand g x = on (is_some g.lists.key) g.console.finished refl refl
+sent-fits : (g : Progress) → AreServed g → LineFits (with_keys_sent g).lists (with_keys_sent g).console
+sent-fits g x = on (is_some g.lists.key) g.console.finished refl refl
   where
-    on : (b f : Bool) → is_some g.lists.key ≡ b → g.console.finished ≡ f → KeysStand (cond (b && not f) (keys_sent g) g).lists (cond (b && not f) (keys_sent g) g).console
+    on : (b f : Bool) → is_some g.lists.key ≡ b → g.console.finished ≡ f → LineFits (cond (b && not f) (keys_sent g) g).lists (cond (b && not f) (keys_sent g) g).console
     on true true k f = record { finished = f ∙ sym k; delivered = x.none }
     on true false k f = record { finished = f; delivered = λ e. absurd (false≢true (sym f ∙ e)) }
     on false true k f = absurd (false≢true (sym k ∙ x.off f))
     on false false k f = record { finished = f ∙ sym k; delivered = x.none }
 
-ended-stand : (g : Progress) → KeysStand g.lists g.console → KeysStand (ended g).lists (ended g).console
-ended-stand g x = on (work g.lists)
+ended-fits : (g : Progress) → LineFits g.lists g.console → LineFits (ended g).lists (ended g).console
+ended-fits g x = on (work g.lists)
   where
-    on : (ps : List QueuedPacket) → KeysStand (finished_by ps g.lists) g.console
+    on : (ps : List QueuedPacket) → LineFits (finished_by ps g.lists) g.console
     on [] = record { finished = x.finished; delivered = x.delivered }
     on (p ∷ ps) = x
 
-pub keys-stand : (id : ℕ) (s : List ℕ) (l : Lists) (c : Console) (k : List ℕ) → KeysStand l c → KeysStand (all_parts id (begun s l c k)).lists (all_parts id (begun s l c k)).console
-keys-stand id s l c k x =
+pub line-fits-keys : (id : ℕ) (s : List ℕ) (l : Lists) (c : Console) (k : List ℕ) → LineFits l c → LineFits (all_parts id (begun s l c k)).lists (all_parts id (begun s l c k)).console
+line-fits-keys id s l c k x =
     let g : Progress = begun s l c k in
     let t : Progress = treated id (work l) g in
-    ended-stand (with_keys_sent (delivery t)) (sent-stand (delivery t) (delivered-served t.lists.pending t refl (treated-off id g (λ f. sym x.finished ∙ f))))
+    ended-fits (with_keys_sent (delivery t)) (sent-fits (delivery t) (delivered-served t.lists.pending t refl (treated-off id g (λ f. sym x.finished ∙ f))))

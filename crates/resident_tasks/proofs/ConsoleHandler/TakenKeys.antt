@@ -24,19 +24,19 @@ use Rattle.kernel_model.specs.KernelRecord.Owned.{owned}
 use Rattle.kernel_model.specs.KernelRecord.Residents.{key_packet, key_words, keyboard}
 use Rattle.kernel_model.specs.KernelRecord.Task.{queue_head}
 use Rattle.kernel_model.specs.KernelRecord.ValidLists.{AreValid}
-use Rattle.kernel_model.specs.KernelRecord.ValidQueues.{IsKeyPacket, MayStand, is_key_packet}
+use Rattle.kernel_model.specs.KernelRecord.ValidQueues.{IsKeyPacket, IsValidPacket, is_key_packet}
 use Rattle.kernel_model.specs.KernelRecord.ValidQueues.Place.{Work}
 use Rattle.kernel_model.proofs.KernelRecord.NotedInTurn.{notes-one}
 use Rattle.kernel_model.proofs.KernelRecord.PacketMoves.{unqueued-unowned}
-use Rattle.kernel_model.proofs.KernelRecord.QueuePlaces.{place-stands}
+use Rattle.kernel_model.proofs.KernelRecord.QueuePlaces.{valid-at-place}
 use Rattle.kernel_model.proofs.KernelRecord.ResidentPackets.{key_unqueued-valid, owners-key}
 use Rattle.kernel_calls.specs.CallAnswers.Made.{Leaves}
 use Rattle.kernel_calls.specs.PacketCalls.Destinations.{queue_for}
-use Rattle.kernel_calls.specs.PacketCalls.PacketMoves.{stands_in}
+use Rattle.kernel_calls.specs.PacketCalls.PacketMoves.{is_on_queue}
 use Rattle.kernel_calls.specs.PacketCalls.QueueWords.{head_of, unqueued}
 use Rattle.kernel_calls.specs.declared.packet_calls.queues.Queue.TheVariants as queues
 use Rattle.kernel_calls.proofs.PacketCalls.Departure.{departed-size, departed-written, held-before, others-kept, owners-departed, packet-inside}
-use Rattle.kernel_calls.proofs.PacketCalls.HeldPlaces.{has-at, stands-at}
+use Rattle.kernel_calls.proofs.PacketCalls.HeldPlaces.{has-at, valid-at}
 use Rattle.kernel_calls.proofs.PacketCalls.PlaceWords.{keys-exchange}
 use Rattle.resident_tasks.specs.ConsoleHandler.KeyPacket.{FindsKeys, StartsWithKeys, keys_taken, keys_taken_from}
 use Rattle.resident_tasks.specs.ResidentRequests.Requests.{RunsResident, work}
@@ -76,11 +76,11 @@ module _ (s : List ℕ) (l : Lists) (h : HoldsLists s l) (f : FindsKeys l) (t : 
   address : q.address ≡ key_packet
   address = eqb-true q.address key_packet (and_parts l.residents _ first.key).1
 
-  stands : MayStand l (Work l.running) q
-  stands = (subst (AllByRecursion (MayStand l (Work l.running))) first.is (place-stands l (Work l.running) h.valid there)).0
+  valid-packet : IsValidPacket l (Work l.running) q
+  valid-packet = (subst (AllByRecursion (IsValidPacket l (Work l.running))) first.is (valid-at-place l (Work l.running) h.valid there)).0
 
   keys : IsKeyPacket (Work l.running) q
-  keys = stands.key first.key
+  keys = valid-packet.key first.key
 
   abbrev m : Lists
   m = with_queue (Work l.running) back l
@@ -95,12 +95,12 @@ module _ (s : List ℕ) (l : Lists) (h : HoldsLists s l) (f : FindsKeys l) (t : 
   queue-is = ap queues.Work at
 
   pub keys-queue : HasQueue s (queue_head t)
-  keys-queue = subst (λ z. HasQueue s (head_of z)) (sym queue-is) (stands-at s l (Work l.running) h there)
+  keys-queue = subst (λ z. HasQueue s (head_of z)) (sym queue-is) (valid-at s l (Work l.running) h there)
 
   pub keys-packet : has key_packet (queue_at s (queue_head t)) ≡ true
   keys-packet =
       subst (λ z. has key_packet (queue_at s (head_of z)) ≡ true) (sym queue-is)
-      (has-at s l (Work l.running) h there key_packet ∙ ap (stands_in key_packet) first.is ∙ or_left _ (stands_in key_packet back) (eq-eqb key_packet q.address (sym address)))
+      (has-at s l (Work l.running) h there key_packet ∙ ap (is_on_queue key_packet) first.is ∙ or_left _ (is_on_queue key_packet back) (eq-eqb key_packet q.address (sym address)))
 
   -- without the key packet's words
   out : Exchange (owned m) (owned (with_key None m)) (key_words l.key) []

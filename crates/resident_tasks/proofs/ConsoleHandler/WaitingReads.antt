@@ -17,7 +17,7 @@ use Rattle.kernel_model.specs.KernelRecord.NotedEvents.{NotesAll}
 use Rattle.kernel_model.specs.KernelRecord.Residents.{pending_head}
 use Rattle.kernel_model.specs.KernelRecord.ValidBlocks.{AreData}
 use Rattle.kernel_model.specs.KernelRecord.ValidLists.{AreValid}
-use Rattle.kernel_model.specs.KernelRecord.ValidQueues.{IsFaultPacket, IsKeyPacket, MayStand, is_fault_packet, is_key_packet}
+use Rattle.kernel_model.specs.KernelRecord.ValidQueues.{IsFaultPacket, IsKeyPacket, IsValidPacket, is_fault_packet, is_key_packet}
 use Rattle.kernel_model.specs.KernelRecord.ValidQueues.Place.{Pending}
 use Rattle.kernel_model.proofs.KernelRecord.ChangedLists.{changed-none}
 use Rattle.kernel_model.proofs.KernelRecord.NotedInTurn.{notes-none, notes-one}
@@ -26,11 +26,11 @@ use Rattle.kernel_model.specs.WordKinds.Keeper.{AreTogether}
 use Rattle.kernel_model.proofs.WordKinds.KnownWords.{knows-claimed, knows-released}
 use Rattle.kernel_calls.specs.CallAnswers.Made.{IsMade, minus_one}
 use Rattle.kernel_calls.proofs.CallAnswers.RootTold.{tick-told}
-use Rattle.kernel_calls.specs.PacketCalls.PacketMoves.{stands_in}
+use Rattle.kernel_calls.specs.PacketCalls.PacketMoves.{is_on_queue}
 use Rattle.kernel_calls.specs.PacketCalls.QueueWords.{sent_words, unqueued}
 use Rattle.kernel_calls.specs.declared.packet_calls.queues.Queue.TheVariants as queues
 use Rattle.kernel_calls.proofs.PacketCalls.Departure.{departed-changed, held-before, others-kept, owners-departed}
-use Rattle.kernel_calls.proofs.PacketCalls.HeldPlaces.{HasFirst, first-there, has-at, held-at, no-packets, stands-at}
+use Rattle.kernel_calls.proofs.PacketCalls.HeldPlaces.{HasFirst, first-there, has-at, held-at, no-packets, valid-at}
 use Rattle.kernel_calls.proofs.PacketCalls.SendCall.{lodged-room}
 use Rattle.kernel_calls.proofs.PacketCalls.SentPackets.{Sent, sent-packet}
 use Rattle.kernel_model.specs.declared.kernel_record.numbers.TheConstants.{PENDING}
@@ -82,7 +82,7 @@ module _ (s : List ℕ) (tells : List ℕ → Type 0) (room : ℕ) (l : Lists) (
           knows = subst (λ ps. Knows tells (read_taken_from ps l).lists) (sym empty) k.knows;
           words = subst (λ ps. s ≡ words_read_from ps s) (sym empty) refl;
           request = subst (λ ps. None ≡ first_request s ps) (sym empty) refl;
-          stands = tt;
+          there = tt;
           owns = tt;
         }
 
@@ -104,23 +104,23 @@ module _ (s : List ℕ) (tells : List ℕ → Type 0) (room : ℕ) (l : Lists) (
     abbrev m : Lists
     m = with_queue Pending back l
 
-    stands : MayStand l Pending q
-    stands = (subst (AllByRecursion (MayStand l Pending)) first.is k.lists.valid.queues.pending).0
+    valid-packet : IsValidPacket l Pending q
+    valid-packet = (subst (AllByRecursion (IsValidPacket l Pending)) first.is k.lists.valid.queues.pending).0
 
     no_key : is_key_packet l q ≡ false
-    no_key = false_from_ne_true (is_key_packet l q) (λ e. (let i : IsKeyPacket Pending q = stands.key e in i.place))
+    no_key = false_from_ne_true (is_key_packet l q) (λ e. (let i : IsKeyPacket Pending q = valid-packet.key e in i.place))
 
     no_fault : is_fault_packet l q ≡ false
-    no_fault = false_from_ne_true (is_fault_packet l q) (λ e. (let i : IsFaultPacket Pending q = stands.fault e in let is = i.place in cc))
+    no_fault = false_from_ne_true (is_fault_packet l q) (λ e. (let i : IsFaultPacket Pending q = valid-packet.fault e in let is = i.place in cc))
 
     valid : AreValid m
     valid = unqueued-valid l Pending q [] back k.lists.valid first.is no_key no_fault
 
     pub read-queue : HasQueue s pending_head
-    read-queue = stands-at s l Pending k.lists residents
+    read-queue = valid-at s l Pending k.lists residents
 
     pub read-packet : has p (queue_at s pending_head) ≡ true
-    read-packet = has-at s l Pending k.lists residents p ∙ ap (stands_in p) first.is ∙ or_left _ (stands_in p back) (eq-eqb p q.address (sym first.address))
+    read-packet = has-at s l Pending k.lists residents p ∙ ap (is_on_queue p) first.is ∙ or_left _ (is_on_queue p back) (eq-eqb p q.address (sym first.address))
 
     module _ (v : List ℕ) (is_left : v ≡ unqueued s queues.Pending p) where
       left : v ≡ unqueued s queues.Pending q.address
@@ -137,8 +137,8 @@ module _ (s : List ℕ) (tells : List ℕ → Type 0) (room : ℕ) (l : Lists) (
           record {
             sender = refl;
             kind = refl;
-            there = ap (λ i. has_task i l.tasks) sender ∙ stands.sender no_key;
-            lodged = subst (λ a. AreData l.blocks a 5) first.address stands.lodged;
+            there = ap (λ i. has_task i l.tasks) sender ∙ valid-packet.sender no_key;
+            lodged = subst (λ a. AreData l.blocks a 5) first.address valid-packet.lodged;
             plain = subst (λ a. AreUnowned m a (a + 5)) first.address (unqueued-unowned l Pending q [] back k.lists.valid first.is);
           }
 
@@ -153,7 +153,7 @@ module _ (s : List ℕ) (tells : List ℕ → Type 0) (room : ℕ) (l : Lists) (
                 (subst (λ z. (known rest : List ℕ) → tells known → IsApart known → AreTogether known rest (range_with_len z 5) → told rest) (sym first.address) release));
             words = subst (λ ps. v ≡ words_read_from ps s) (sym first.is) left;
             request = subst (λ ps. Some (request_at v p) ≡ first_request v ps) (sym first.is) (ap (λ a. Some (request_at v a)) (sym first.address));
-            stands = subst (λ ps. HasRequest v (read_taken_from ps l).lists (request_at v p)) (sym first.is) has-request;
+            has_request = subst (λ ps. HasRequest v (read_taken_from ps l).lists (request_at v p)) (sym first.is) has-request;
             owns =
                 subst (λ ps. OwnsRequest (read_taken_from ps l).lists l (request_at v p)) (sym first.is)
                 (subst (λ a. OwnsRequest m l (request_at v a)) first.address (owners-departed s l Pending q [] back k.lists first.is));

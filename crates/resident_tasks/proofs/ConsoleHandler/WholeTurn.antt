@@ -5,9 +5,9 @@ use Rattle.std.proofs.lemmas.Bool.{eq-eqb, false_from_ne_true, ne_eqb}
 use Rattle.kernel_lists.specs.PacketQueue.QueueWords.{QueuedPacket}
 use Rattle.kernel_model.specs.KernelRecord.Kernel.{Console}
 use Rattle.kernel_model.specs.KernelRecord.Residents.{key_packet}
-use Rattle.kernel_model.specs.KernelRecord.ValidQueues.{IsFaultPacket, MayStand, Place, is_fault_packet, is_key_packet}
+use Rattle.kernel_model.specs.KernelRecord.ValidQueues.{IsFaultPacket, IsValidPacket, Place, is_fault_packet, is_key_packet}
 use Rattle.kernel_model.specs.KernelRecord.ValidQueues.Place.{Clock, Keyboard, Output, Pending, Work}
-use Rattle.kernel_model.proofs.KernelRecord.QueuePlaces.{place-stands}
+use Rattle.kernel_model.proofs.KernelRecord.QueuePlaces.{valid-at-place}
 use Rattle.kernel_calls.specs.CallAnswers.Outside.{Outside}
 use Rattle.kernel_calls.specs.PacketCalls.TaskWait.{first_of_queue}
 use Rattle.resident_tasks.specs.ResidentRequests.Requests.{IsForeign, TakesRequest, work}
@@ -60,7 +60,7 @@ module _ (b : Start) (t : List ℕ) (tells : List ℕ → Type 0) (room : ℕ) (
     no-key : (q : QueuedPacket) (qs : List QueuedPacket) → Some p ≡ first_of_queue (q ∷ qs) → is_key_packet g.lists q ≡ false
     no-key q qs e = (let same : p ≡ q.address = cc in λ i. residents i && ne_eqb q.address key_packet (λ z. other (same ∙ z)) i)
 
-    foreign : (ps : List QueuedPacket) → AllByRecursion (MayStand g.lists (Work g.lists.running)) ps → Some p ≡ first_of_queue ps → IsForeign g.lists ps
+    foreign : (ps : List QueuedPacket) → AllByRecursion (IsValidPacket g.lists (Work g.lists.running)) ps → Some p ≡ first_of_queue ps → IsForeign g.lists ps
     foreign [] all e = cc
     foreign (q ∷ qs) all e = (
       no-key q qs e,
@@ -68,7 +68,7 @@ module _ (b : Start) (t : List ℕ) (tells : List ℕ → Type 0) (room : ℕ) (
     )
 
     pub takes-request : TakesRequest g.lists
-    takes-request = record { runs = x.runs; foreign = foreign (work g.lists) (place-stands g.lists (Work g.lists.running) x.lists.lists.valid x.runs.there) e }
+    takes-request = record { runs = x.runs; foreign = foreign (work g.lists) (valid-at-place g.lists (Work g.lists.running) x.lists.lists.valid x.runs.there) e }
 
     pub request-treated : (id : ℕ) → with_first g ≡ treated id (work g.lists) g
     request-treated id = on (work g.lists) e

@@ -23,11 +23,11 @@ use Rattle.kernel_model.specs.KernelRecord.Residents.{fault_packet, fault_packet
 use Rattle.kernel_model.specs.KernelRecord.Root.{root_words}
 use Rattle.kernel_model.specs.KernelRecord.Task.{Task, task_id}
 use Rattle.kernel_model.specs.KernelRecord.ValidLists.{AreValid}
-use Rattle.kernel_model.specs.KernelRecord.ValidQueues.{IsFaultPacket, MayStand, Place}
+use Rattle.kernel_model.specs.KernelRecord.ValidQueues.{IsFaultPacket, IsValidPacket, Place}
 use Rattle.kernel_model.specs.KernelRecord.ValidQueues.Place.{Clock, Keyboard, Output, Pending, Work}
 use Rattle.kernel_model.proofs.KernelRecord.ChangedLists.{changed-none}
-use Rattle.kernel_model.proofs.KernelRecord.QueuePlaces.{is_queued-here, is_queued-place, place-stands}
-use Rattle.kernel_model.proofs.KernelRecord.QueuedPackets.{is_queued-parts, stands_in, work_packets}
+use Rattle.kernel_model.proofs.KernelRecord.QueuePlaces.{is_queued-here, is_queued-place, valid-at-place}
+use Rattle.kernel_model.proofs.KernelRecord.QueuedPackets.{is_on_queue, is_queued-parts, work_packets}
 use Rattle.kernel_model.proofs.KernelRecord.ReadQueues.{packets-some}
 use Rattle.kernel_model.proofs.KernelRecord.ResidentPackets.{fault_queued-valid, owners-fault}
 use Rattle.kernel_calls.specs.CallAnswers.Callers.{HasCaller}
@@ -40,7 +40,7 @@ use Rattle.kernel_calls.proofs.PacketCalls.HeldPlaces.{has-at}
 use Rattle.kernel_calls.specs.PacketCalls.Destinations.{queue_for}
 use Rattle.kernel_calls.specs.PacketCalls.QueueWords.{due_in, enqueued, head_of, sent_words}
 use Rattle.kernel_calls.proofs.PacketCalls.Arrival.{AreOfPacket}
-use Rattle.kernel_calls.proofs.PacketCalls.PlacedPackets.{AreSet, end-changed, end-owners, end-packet, end-queue, fields-stand}
+use Rattle.kernel_calls.proofs.PacketCalls.PlacedPackets.{AreSet, end-changed, end-owners, end-packet, end-queue, fields-valid}
 use Rattle.word_store.specs.Arithmetic.{signed}
 use Rattle.kernel_lists.specs.PacketQueue.Log.{Notes}
 use Rattle.kernel_lists.specs.declared.packet_queue.events.KernelEvent.{KernelEvent}
@@ -92,36 +92,36 @@ number e = cc
 
 module _ (l : Lists) (there : has_task 2 l.tasks ≡ true) where
   -- it stands nowhere else
-  elsewhere : (at : Place) → (at ≡ Work 2 → ⊥) → (ps : List QueuedPacket) → AllByRecursion (MayStand l at) ps → stands_in fault_packet ps ≡ false
+  elsewhere : (at : Place) → (at ≡ Work 2 → ⊥) → (ps : List QueuedPacket) → AllByRecursion (IsValidPacket l at) ps → is_on_queue fault_packet ps ≡ false
   elsewhere at other [] all = refl
   elsewhere at other (p ∷ ps) all =
-      ap (λ b. b || stands_in fault_packet ps)
+      ap (λ b. b || is_on_queue fault_packet ps)
       (false_from_ne_true (eqb p.address fault_packet) (λ e. (let f : IsFaultPacket at p = all.0.fault (and_from (has_task 2 l.tasks) (eqb p.address fault_packet) there e) in other f.place)))
       ∙ elsewhere at other ps all.1
 
-  abbrev Stand : List Task → Type 0
-  Stand ts = AllByRecursion (λ t. AllByRecursion (MayStand l (Work t.id)) t.queue) ts
+  abbrev AreValidWork : List Task → Type 0
+  AreValidWork ts = AllByRecursion (λ t. AllByRecursion (IsValidPacket l (Work t.id)) t.queue) ts
 
-  other-work : (ts : List Task) → times 2 (map task_id ts) ≡ 0 → Stand ts → stands_in fault_packet (work_packets ts) ≡ false
+  other-work : (ts : List Task) → times 2 (map task_id ts) ≡ 0 → AreValidWork ts → is_on_queue fault_packet (work_packets ts) ≡ false
   other-work [] none all = refl
   other-work (t ∷ ts) none all =
       list_any-append (λ q. eqb q.address fault_packet) t.queue (work_packets ts)
       ∙ (λ i. elsewhere (Work t.id) (λ e. absurd (omega (arith, none, hit-same 2 t.id (sym (number e))))) t.queue all.0 i || other-work ts (omega (arith, none)) all.1 i)
 
-  own-work : (ts : List Task) → IsApart (map task_id ts) → Stand ts → stands_in fault_packet (work_of 2 ts) ≡ false → stands_in fault_packet (work_packets ts) ≡ false
+  own-work : (ts : List Task) → IsApart (map task_id ts) → AreValidWork ts → is_on_queue fault_packet (work_of 2 ts) ≡ false → is_on_queue fault_packet (work_packets ts) ≡ false
   own-work [] apart all none = refl
   own-work (t ∷ ts) apart all none =
       list_any-append (λ q. eqb q.address fault_packet) t.queue (work_packets ts)
       ∙ elim (cases_eq t.id 2) [
         | inl e ↦
-            let first : stands_in fault_packet t.queue ≡ false = sym (ap (λ b. stands_in fault_packet (cond b t.queue (work_of 2 ts))) (eq-eqb t.id 2 e)) ∙ none in
+            let first : is_on_queue fault_packet t.queue ≡ false = sym (ap (λ b. is_on_queue fault_packet (cond b t.queue (work_of 2 ts))) (eq-eqb t.id 2 e)) ∙ none in
             λ i. first i || other-work ts (omega (arith, apart 2, hit-same 2 t.id (sym e))) all.1 i
         | inr ne ↦
-            let rest : stands_in fault_packet (work_of 2 ts) ≡ false = sym (ap (λ b. stands_in fault_packet (cond b t.queue (work_of 2 ts))) (ne_eqb t.id 2 ne)) ∙ none in
+            let rest : is_on_queue fault_packet (work_of 2 ts) ≡ false = sym (ap (λ b. is_on_queue fault_packet (cond b t.queue (work_of 2 ts))) (ne_eqb t.id 2 ne)) ∙ none in
             λ i. elsewhere (Work t.id) (λ e. ne (number e)) t.queue all.0 i || own-work ts (λ a. omega (arith, apart a)) all.1 rest i
       ]
 
-  not-queued : AreValid l → stands_in fault_packet (work_of 2 l.tasks) ≡ false → is_queued fault_packet l ≡ false
+  not-queued : AreValid l → is_on_queue fault_packet (work_of 2 l.tasks) ≡ false → is_queued fault_packet l ≡ false
   not-queued v none =
       is_queued-parts fault_packet l
       ∙ (λ i.
@@ -129,7 +129,7 @@ module _ (l : Lists) (there : has_task 2 l.tasks ≡ true) where
       || (elsewhere Clock (λ e. cc) l.clock v.queues.clock i
       || (elsewhere Keyboard (λ e. cc) l.keyboard v.queues.keyboard i || (elsewhere Output (λ e. cc) l.output v.queues.output i || elsewhere Pending (λ e. cc) l.pending v.queues.pending i))))
 
-  queued : AreValid l → stands_in fault_packet (work_of 2 l.tasks) ≡ true → is_queued fault_packet l ≡ true
+  queued : AreValid l → is_on_queue fault_packet (work_of 2 l.tasks) ≡ true → is_queued fault_packet l ≡ true
   queued v some =
       sym (is_queued-place fault_packet l (Work 2) (work_of 2 l.tasks) v.tasks.distinct there refl) ∙ is_queued-here fault_packet l (Work 2) (work_of 2 l.tasks) v.tasks.distinct there some
 
@@ -140,11 +140,11 @@ module _ (l : Lists) (there : has_task 2 l.tasks ≡ true) where
       turn : (a b : ℕ) → eqb a b ≡ eqb b a
       turn a b = elim (cases_eq a b) [ inl e ↦ eq-eqb a b e ∙ sym (eq-eqb b a (sym e)) | inr ne ↦ ne_eqb a b ne ∙ sym (ne_eqb b a (λ e. ne (sym e))) ]
 
-      turned : (ps : List QueuedPacket) → list_any (λ q. eqb fault_packet q.address) ps ≡ stands_in fault_packet ps
+      turned : (ps : List QueuedPacket) → list_any (λ q. eqb fault_packet q.address) ps ≡ is_on_queue fault_packet ps
       turned [] = refl
       turned (p ∷ ps) = λ i. turn fault_packet p.address i || turned ps i
 
-      same : (b : Bool) → b ≡ stands_in fault_packet (work_of 2 l.tasks) → is_queued fault_packet l ≡ b
+      same : (b : Bool) → b ≡ is_on_queue fault_packet (work_of 2 l.tasks) → is_queued fault_packet l ≡ b
       same true e = queued v (sym e)
       same false e = not-queued v (sym e)
 
@@ -180,14 +180,14 @@ module _ (s : List ℕ) (l : Lists) (h : HoldsLists s l) (c : HasCaller l) (ther
   holds : Holds s (owned base)
   holds = gone.then'.closes s (gone.first.opens s h.holds).0 tt
 
-  stands : Holds s kept
-  stands = (let words : Holds s (fault_packet_words true) = subst (λ b. Holds s (fault_packet_words b)) free (gone.first.opens s h.holds).1 in (words.1.1.1.0, (words.1.1.1.1.0, tt)))
+  kept-there : Holds s kept
+  kept-there = (let words : Holds s (fault_packet_words true) = subst (λ b. Holds s (fault_packet_words b)) free (gone.first.opens s h.holds).1 in (words.1.1.1.0, (words.1.1.1.1.0, tt)))
 
   valid : AreValid (with_queue (Work 2) (ps ++ q ∷ []) base)
   valid = fault_queued-valid l q ps [] h.valid (sym (append-nil ps)) free refl (record { place = refl; kind = refl; res1 = refl; last = refl }) c.there
 
   some : AllByRecursion (λ z. 0 < z.address) (ps ++ q ∷ [])
-  some = all-append (λ z. 0 < z.address) ps (q ∷ []) (packets-some l (Work 2) ps (place-stands l (Work 2) h.valid there)) (omega arith, tt)
+  some = all-append (λ z. 0 < z.address) ps (q ∷ []) (packets-some l (Work 2) ps (valid-at-place l (Work 2) h.valid there)) (omega arith, tt)
 
   own : AreOfPacket fault_packet ws
   own a more =
@@ -212,22 +212,22 @@ module _ (s : List ℕ) (l : Lists) (h : HoldsLists s l) (c : HasCaller l) (ther
   sent-is = ap (λ b. sent_where b l) free
 
   pub packet-queue : HasQueue (written ws s) (head_of (queue_for l (Work 2)))
-  packet-queue = end-queue s base (Work 2) q ws kept holds h.size h.valid.tasks.distinct there valid some tt (fields-stand l h.valid) own are_set stands
+  packet-queue = end-queue s base (Work 2) q ws kept holds h.size h.valid.tasks.distinct there valid some tt (fields-valid l h.valid) own are_set kept-there
 
   pub packet-comes : CanQueue (written ws s) (head_of (queue_for l (Work 2))) fault_packet
-  packet-comes = end-packet s base (Work 2) q ws kept holds h.size h.valid.tasks.distinct there valid some tt (fields-stand l h.valid) own are_set stands
+  packet-comes = end-packet s base (Work 2) q ws kept holds h.size h.valid.tasks.distinct there valid some tt (fields-valid l h.valid) own are_set kept-there
 
   pub is-sent : (v : List ℕ) (due : ℕ) → v ≡ enqueued (written ws s) (queue_for l (Work 2)) fault_packet due → OwnsSame s v l (sent l)
   is-sent v due is =
       record {
         lists =
             subst (λ m. IsChanged s v m []) (sym sent-is)
-            (end-changed s base (Work 2) q ws kept holds h.size h.valid.tasks.distinct there valid some tt (fields-stand l h.valid) own are_set stands v due is);
+            (end-changed s base (Work 2) q ws kept holds h.size h.valid.tasks.distinct there valid some tt (fields-valid l h.valid) own are_set kept-there v due is);
         same = λ a.
             ap (λ m. owners a (owned m)) sent-is
             ∙ omega (
               arith,
-              end-owners s base (Work 2) q ws kept holds h.size h.valid.tasks.distinct there valid some tt (fields-stand l h.valid) own are_set stands a,
+              end-owners s base (Work 2) q ws kept holds h.size h.valid.tasks.distinct there valid some tt (fields-valid l h.valid) own are_set kept-there a,
               gone.first.count a,
               gone.then'.count a,
               owners-fault a,

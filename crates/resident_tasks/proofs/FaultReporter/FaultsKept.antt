@@ -6,7 +6,7 @@ use Rattle.std.proofs.Math.Bool.{and-false}
 use Rattle.instruction_set.specs.declared.Fault.{Fault}
 use Rattle.word_store.proofs.Elements.{all-append}
 use Rattle.kernel_lists.specs.PacketQueue.QueueWords.{QueuedPacket}
-use Rattle.kernel_model.specs.KernelRecord.Between.{FaultsStand, Tells, has_unreported, is_unreported}
+use Rattle.kernel_model.specs.KernelRecord.Between.{AreValidFaults, Tells, has_unreported, is_unreported}
 use Rattle.kernel_model.specs.KernelRecord.Changes.{change_of, queue_of, with_queue, with_tasks, with_work, work_of}
 use Rattle.kernel_model.specs.KernelRecord.Lists.{Lists, has_task}
 use Rattle.kernel_model.specs.KernelRecord.Residents.{fault_packet}
@@ -16,7 +16,7 @@ use Rattle.kernel_model.specs.KernelRecord.ValidQueues.Place.{Work}
 use Rattle.kernel_model.specs.KernelRecord.ValidTasks.{IsRecordedFault}
 use Rattle.kernel_model.proofs.KernelRecord.ResidentPackets.{fault_unqueued-valid}
 use Rattle.kernel_calls.specs.PacketCalls.TaskWait.{waiting}
-use Rattle.kernel_calls.specs.PacketCalls.PacketMoves.{stands_in, with_arrived}
+use Rattle.kernel_calls.specs.PacketCalls.PacketMoves.{is_on_queue, with_arrived}
 use Rattle.resident_tasks.specs.ResidentRequests.Answers.{answered_packet, finished, finished_by}
 use Rattle.resident_tasks.specs.ResidentRequests.Requests.{RunsResident, first_request, request_at, taken_from, words_taken_from, work}
 use Rattle.resident_tasks.specs.ResidentRequests.Turns.{request_turn, turn_of}
@@ -60,7 +60,7 @@ work-same f keeps id [] = refl
 work-same f keeps id (t ∷ ts) = λ i. cond (eqb ((keeps t).0 i) id) ((keeps t).1 i) (work-same f keeps id ts i)
 
 -- where queues stay too, all holds as before
-pub map-faults : (l : Lists) (f : Task → Task) → KeepsFault f → ((t : Task) → ((f t).id ≡ t.id) × ((f t).queue ≡ t.queue)) → FaultsStand l → FaultsStand (with_tasks (map f l.tasks) l)
+pub map-faults : (l : Lists) (f : Task → Task) → KeepsFault f → ((t : Task) → ((f t).id ≡ t.id) × ((f t).queue ≡ t.queue)) → AreValidFaults l → AreValidFaults (with_tasks (map f l.tasks) l)
 map-faults l f keeps queues h =
     record {
       waits = λ there. h.waits (sym (there-same f keeps 2 l.tasks) ∙ there) ∙ ap not (sym (any-new f keeps l.tasks));
@@ -89,7 +89,7 @@ queue-sender : (l : Lists) (i : ℕ) (qs : List QueuedPacket) → (i ≡ 2 → A
 queue-sender l i qs new all =
     tells-same (with_work i qs) (work-keeps i qs) l.tasks (work_of 2 (map (with_work i qs) l.tasks)) (work-all (Tells l.tasks) i qs l.tasks new all)
 
-pub queue-faults : (l : Lists) (i : ℕ) (qs : List QueuedPacket) → (i ≡ 2 → AllByRecursion (Tells l.tasks) qs) → FaultsStand l → FaultsStand (with_queue (Work i) qs l)
+pub queue-faults : (l : Lists) (i : ℕ) (qs : List QueuedPacket) → (i ≡ 2 → AllByRecursion (Tells l.tasks) qs) → AreValidFaults l → AreValidFaults (with_queue (Work i) qs l)
 queue-faults l i qs new h =
     record {
       waits = λ there. h.waits (sym (there-same (with_work i qs) (work-keeps i qs) 2 l.tasks) ∙ there) ∙ ap not (sym (any-new (with_work i qs) (work-keeps i qs) l.tasks));
@@ -98,7 +98,7 @@ queue-faults l i qs new h =
 
 -- ---- a turn ends
 
-pub finished-faults : (l : Lists) → FaultsStand l → FaultsStand (finished l)
+pub finished-faults : (l : Lists) → AreValidFaults l → AreValidFaults (finished l)
 finished-faults l h = on (work l)
   where
     keeps : (t : Task) → ((change_of l.running waiting t).id ≡ t.id) × ((change_of l.running waiting t).fault ≡ t.fault)
@@ -107,7 +107,7 @@ finished-faults l h = on (work l)
     queues : (t : Task) → ((change_of l.running waiting t).id ≡ t.id) × ((change_of l.running waiting t).queue ≡ t.queue)
     queues t = elim (eqb t.id l.running) as (λ b. ((cond b (waiting t) t).id ≡ t.id) × ((cond b (waiting t) t).queue ≡ t.queue)) [ true ↦ (refl, refl) | false ↦ (refl, refl) ]
 
-    on : (ps : List QueuedPacket) → FaultsStand (finished_by ps l)
+    on : (ps : List QueuedPacket) → AreValidFaults (finished_by ps l)
     on [] = map-faults l (change_of l.running waiting) keeps queues h
     on (p ∷ ps) = h
 
@@ -156,7 +156,7 @@ module _ (f : Fault) (is : IsRecordedFault f.code) where
 held-queues : (id : ℕ) (f : Fault) (t : Task) → ((change_of id (with_fault f) t).id ≡ t.id) × ((change_of id (with_fault f) t).queue ≡ t.queue)
 held-queues id f t = elim (eqb t.id id) as (λ b. ((cond b (with_fault f t) t).id ≡ t.id) × ((cond b (with_fault f t) t).queue ≡ t.queue)) [ true ↦ (refl, refl) | false ↦ (refl, refl) ]
 
-pub recorded-hold : (l : Lists) (f : Fault) → CanRecord l f → FaultsStand l → FaultsStand (recorded f l)
+pub recorded-hold : (l : Lists) (f : Fault) → CanRecord l f → AreValidFaults l → AreValidFaults (recorded f l)
 recorded-hold l f r h = on l.fault_packet_free refl
   where
     m : Lists
@@ -171,7 +171,7 @@ recorded-hold l f r h = on l.fault_packet_free refl
     qs : List QueuedPacket
     qs = work_of 2 m.tasks ++ packet_from l.running ∷ []
 
-    on : (b : Bool) → l.fault_packet_free ≡ b → FaultsStand (sent_where b m)
+    on : (b : Bool) → l.fault_packet_free ≡ b → AreValidFaults (sent_where b m)
     on false e = record { waits = λ there. e ∙ ap not (sym new); sender = waiting-all }
     on true e =
         record {
@@ -199,11 +199,11 @@ none-left [] = refl
 none-left (t ∷ ts) = λ i. old-fault t i || none-left ts i
 
 -- none of the packets that are left is the fault packet
-tells-none : (ts : List Task) (ps : List QueuedPacket) → false ≡ stands_in fault_packet ps → AllByRecursion (Tells ts) ps
+tells-none : (ts : List Task) (ps : List QueuedPacket) → false ≡ is_on_queue fault_packet ps → AllByRecursion (Tells ts) ps
 tells-none ts [] e = tt
 tells-none ts (p ∷ ps) e = on (eqb fault_packet p.address) refl e (tells-none ts ps)
   where
-    on : (b : Bool) → eqb fault_packet p.address ≡ b → false ≡ (b || stands_in fault_packet ps) → (false ≡ stands_in fault_packet ps → AllByRecursion (Tells ts) ps) → AllByRecursion (Tells ts) (p ∷ ps)
+    on : (b : Bool) → eqb fault_packet p.address ≡ b → false ≡ (b || is_on_queue fault_packet ps) → (false ≡ is_on_queue fault_packet ps → AllByRecursion (Tells ts) ps) → AllByRecursion (Tells ts) (p ∷ ps)
     on true same e more = absurd (false≢true e)
     on false same e more = ((λ is. absurd (false≢true (sym same ∙ eq-eqb fault_packet p.address (sym (eqb-true p.address fault_packet is))))), more e)
 
@@ -211,13 +211,13 @@ reported-queues : (t : Task) → ((reported t).id ≡ t.id) × ((reported t).que
 reported-queues t =
     elim (is_unreported t) as (λ b. ((cond b (record t { fault = t.fault + 256 }) t).id ≡ t.id) × ((cond b (record t { fault = t.fault + 256 }) t).queue ≡ t.queue)) [ true ↦ (refl, refl) | false ↦ (refl, refl) ]
 
-reported-hold : (l : Lists) (p : QueuedPacket) (ps : List QueuedPacket) → AreValid l → has_task 2 l.tasks ≡ true → work_of 2 l.tasks ≡ p ∷ ps → p.address ≡ fault_packet → FaultsStand (all_reported (packet_taken ps l))
+reported-hold : (l : Lists) (p : QueuedPacket) (ps : List QueuedPacket) → AreValid l → has_task 2 l.tasks ≡ true → work_of 2 l.tasks ≡ p ∷ ps → p.address ≡ fault_packet → AreValidFaults (all_reported (packet_taken ps l))
 reported-hold l p ps v there is address =
     record {
       waits = λ _. ap not (sym (none-left m.tasks));
       sender =
           subst (AllByRecursion (Tells (map reported m.tasks))) (sym (work-same reported reported-queues 2 m.tasks))
-          (tells-none (map reported m.tasks) (work_of 2 m.tasks) (gone (stands_in fault_packet (work_of 2 m.tasks)) (free-is m there-now (stands_in fault_packet (work_of 2 m.tasks)) valid refl)));
+          (tells-none (map reported m.tasks) (work_of 2 m.tasks) (gone (is_on_queue fault_packet (work_of 2 m.tasks)) (free-is m there-now (is_on_queue fault_packet (work_of 2 m.tasks)) valid refl)));
     }
   where
     m : Lists
@@ -233,7 +233,7 @@ reported-hold l p ps v there is address =
     gone true e = cc
     gone false e = refl
 
-pub turn-hold : (s : List ℕ) (l : Lists) → AreValid l → RunsResident l → l.running ≡ 2 → FaultsStand l → FaultsStand (fault_turn s l).lists
+pub turn-hold : (s : List ℕ) (l : Lists) → AreValid l → RunsResident l → l.running ≡ 2 → AreValidFaults l → AreValidFaults (fault_turn s l).lists
 turn-hold s l v r two h = on (work l) refl
   where
     there : has_task 2 l.tasks ≡ true
@@ -244,25 +244,25 @@ turn-hold s l v r two h = on (work l) refl
 
     -- another packet is refused
     refused : (p : QueuedPacket) (ps : List QueuedPacket) → work l ≡ p ∷ ps → eqb p.address fault_packet ≡ false → (q : Request) → q.packet ≡ p.address
-        → FaultsStand (finished (with_arrived (Work q.sender) (answered_packet (with_queue (Work l.running) ps l) q (Err 31)) (with_queue (Work l.running) ps l)))
+        → AreValidFaults (finished (with_arrived (Work q.sender) (answered_packet (with_queue (Work l.running) ps l) q (Err 31)) (with_queue (Work l.running) ps l)))
     refused p ps is other q address =
         let m : Lists = with_queue (Work l.running) ps l in
         let back : QueuedPacket = answered_packet m q (Err 31) in
         let rest : AllByRecursion (Tells l.tasks) ps = (subst (AllByRecursion (Tells l.tasks)) (here (p ∷ ps) is) h.sender).1 in
-        let x : FaultsStand m = queue-faults l l.running ps (λ _. rest) h in
+        let x : AreValidFaults m = queue-faults l l.running ps (λ _. rest) h in
         finished-faults (with_arrived (Work q.sender) back m)
         (queue-faults m q.sender (queue_of (Work q.sender) m ++ back ∷ [])
         (λ e.
         all-append (Tells m.tasks) (queue_of (Work q.sender) m) (back ∷ []) (subst (λ i. AllByRecursion (Tells m.tasks) (work_of i m.tasks)) (sym e) x.sender)
         ((λ same. absurd (false≢true (sym other ∙ ap (λ a. eqb a fault_packet) (sym address) ∙ same))), tt)) x)
 
-    on : (ps : List QueuedPacket) → work l ≡ ps → FaultsStand (fault_turn_from ps s l).lists
+    on : (ps : List QueuedPacket) → work l ≡ ps → AreValidFaults (fault_turn_from ps s l).lists
     on [] is = finished-faults l h
     on (p ∷ ps) is = by (eqb p.address fault_packet) refl
       where
-        by : (b : Bool) → eqb p.address fault_packet ≡ b → FaultsStand (cond b (reported_turn p ps s l) (request_turn unknown s l)).lists
+        by : (b : Bool) → eqb p.address fault_packet ≡ b → AreValidFaults (cond b (reported_turn p ps s l) (request_turn unknown s l)).lists
         by true e = finished-faults (all_reported (packet_taken ps l)) (reported-hold l p ps v there (here (p ∷ ps) is) (eqb-true p.address fault_packet e))
         by false e =
-            subst (λ qs. FaultsStand (turn_of (first_request (words_taken_from qs s l) qs) (unknown (words_taken_from qs s l) (taken_from qs l).lists) s l).lists) (sym is)
-            (subst (λ qs. FaultsStand (finished (with_arrived (Work (request_at (words_taken_from (p ∷ ps) s l) p.address).sender) (answered_packet (taken_from qs l).lists (request_at (words_taken_from (p ∷ ps) s l) p.address) (Err 31)) (taken_from qs l).lists))) (sym is)
+            subst (λ qs. AreValidFaults (turn_of (first_request (words_taken_from qs s l) qs) (unknown (words_taken_from qs s l) (taken_from qs l).lists) s l).lists) (sym is)
+            (subst (λ qs. AreValidFaults (finished (with_arrived (Work (request_at (words_taken_from (p ∷ ps) s l) p.address).sender) (answered_packet (taken_from qs l).lists (request_at (words_taken_from (p ∷ ps) s l) p.address) (Err 31)) (taken_from qs l).lists))) (sym is)
             (refused p ps is e (request_at (words_taken_from (p ∷ ps) s l) p.address) refl))

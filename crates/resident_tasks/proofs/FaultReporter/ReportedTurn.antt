@@ -14,11 +14,11 @@ use Rattle.kernel_model.specs.KernelRecord.Residents.{fault_packet}
 use Rattle.kernel_model.specs.KernelRecord.Running.{RunsIf}
 use Rattle.kernel_model.specs.KernelRecord.Task.{Task}
 use Rattle.kernel_model.specs.KernelRecord.ValidLists.{AreValid}
-use Rattle.kernel_model.specs.KernelRecord.ValidQueues.{IsKeyPacket, MayStand, is_fault_packet, is_key_packet}
+use Rattle.kernel_model.specs.KernelRecord.ValidQueues.{IsKeyPacket, IsValidPacket, is_fault_packet, is_key_packet}
 use Rattle.kernel_model.specs.KernelRecord.ValidQueues.Place.{Work}
 use Rattle.kernel_model.specs.KernelRecord.ValidTasks.{runs}
 use Rattle.kernel_model.proofs.KernelRecord.ChangedLists.{changed-then, knows-same}
-use Rattle.kernel_model.proofs.KernelRecord.QueuePlaces.{place-stands}
+use Rattle.kernel_model.proofs.KernelRecord.QueuePlaces.{valid-at-place}
 use Rattle.std.proofs.lemmas.Bool.{and_parts, false≢true, false_from_ne_true}
 use Rattle.kernel_calls.specs.CallAnswers.Outside.{outside}
 use Rattle.resident_tasks.specs.ResidentRequests.Answers.{IsFinished, finished}
@@ -74,12 +74,12 @@ then-finished s t u l m x f =
 
 module _ (l : Lists) (v : AreValid l) (r : RunsResident l) (two : l.running ≡ 2) (other : is_fault_first (work l) ≡ false) where
   pub takes-other : TakesRequest l
-  takes-other = record { runs = r; foreign = on (work l) (place-stands l (Work l.running) v r.there) other }
+  takes-other = record { runs = r; foreign = on (work l) (valid-at-place l (Work l.running) v r.there) other }
     where
-      on : (ps : List QueuedPacket) → AllByRecursion (MayStand l (Work l.running)) ps → is_fault_first ps ≡ false → IsForeign l ps
-      on [] stand e = tt
-      on (p ∷ ps) stand e = (
-        false_from_ne_true (is_key_packet l p) (λ is. (let i : IsKeyPacket (Work l.running) p = stand.0.key is in absurd (omega (arith, i.place.0, two)))),
+      on : (ps : List QueuedPacket) → AllByRecursion (IsValidPacket l (Work l.running)) ps → is_fault_first ps ≡ false → IsForeign l ps
+      on [] valid-packets e = tt
+      on (p ∷ ps) valid-packets e = (
+        false_from_ne_true (is_key_packet l p) (λ is. (let i : IsKeyPacket (Work l.running) p = valid-packets.0.key is in absurd (omega (arith, i.place.0, two)))),
         false_from_ne_true (is_fault_packet l p) (λ is. false≢true (sym e ∙ (and_parts (has_task 2 l.tasks) (eqb p.address fault_packet) is).1)),
       )
 

@@ -18,16 +18,16 @@ use Rattle.kernel_model.specs.KernelRecord.Lists.{Lists, address_of_task, has_ta
 use Rattle.kernel_model.specs.KernelRecord.Owned.{owned}
 use Rattle.kernel_model.specs.KernelRecord.Residents.{fault_packet, fault_packet_words}
 use Rattle.kernel_model.specs.KernelRecord.ValidLists.{AreValid}
-use Rattle.kernel_model.specs.KernelRecord.ValidQueues.{IsFaultPacket, MayStand}
+use Rattle.kernel_model.specs.KernelRecord.ValidQueues.{IsFaultPacket, IsValidPacket}
 use Rattle.kernel_model.specs.KernelRecord.ValidQueues.Place.{Work}
-use Rattle.kernel_model.proofs.KernelRecord.QueuePlaces.{place-stands}
+use Rattle.kernel_model.proofs.KernelRecord.QueuePlaces.{valid-at-place}
 use Rattle.kernel_model.proofs.KernelRecord.ResidentPackets.{fault_unqueued-valid, owners-fault}
 use Rattle.kernel_calls.specs.PacketCalls.Destinations.{queue_for}
-use Rattle.kernel_calls.specs.PacketCalls.PacketMoves.{stands_in}
+use Rattle.kernel_calls.specs.PacketCalls.PacketMoves.{is_on_queue}
 use Rattle.kernel_calls.specs.PacketCalls.QueueWords.{head_of, unqueued}
 use Rattle.kernel_calls.specs.declared.packet_calls.queues.Queue.TheVariants as queues
 use Rattle.kernel_calls.proofs.PacketCalls.Departure.{departed-size, departed-written, held-before, others-kept, owners-departed, packet-inside}
-use Rattle.kernel_calls.proofs.PacketCalls.HeldPlaces.{has-at, stands-at}
+use Rattle.kernel_calls.proofs.PacketCalls.HeldPlaces.{has-at, valid-at}
 use Rattle.resident_tasks.specs.ResidentRequests.Requests.{RunsResident, work}
 use Rattle.resident_tasks.specs.FaultReporter.FaultTurns.{IsFaultFirst, packet_taken, sender_of, fault_taken_from}
 use Rattle.resident_tasks.specs.FaultReporter.Recorded.{OwnsSame}
@@ -70,17 +70,17 @@ module _ (s : List ℕ) (l : Lists) (h : HoldsLists s l) (r : RunsResident l) (t
   valid : AreValid after
   valid = fault_unqueued-valid l q [] back h.valid is first.address
 
-  stands : MayStand l (Work 2) q
-  stands = (subst (AllByRecursion (MayStand l (Work 2))) is (place-stands l (Work 2) h.valid there)).0
+  valid-packet : IsValidPacket l (Work 2) q
+  valid-packet = (subst (AllByRecursion (IsValidPacket l (Work 2))) is (valid-at-place l (Work 2) h.valid there)).0
 
   kind : IsFaultPacket (Work 2) q
-  kind = stands.fault (and_from (has_task 2 l.tasks) (eqb q.address fault_packet) there (eq-eqb q.address fault_packet first.address))
+  kind = valid-packet.fault (and_from (has_task 2 l.tasks) (eqb q.address fault_packet) there (eq-eqb q.address fault_packet first.address))
 
   -- it waits, so it is not free
   waits : l.fault_packet_free ≡ false
   waits =
       free-is l there true h.valid
-      (sym (ap (stands_in fault_packet) is ∙ or_left (eqb fault_packet q.address) (stands_in fault_packet back) (eq-eqb fault_packet q.address (sym first.address))))
+      (sym (ap (is_on_queue fault_packet) is ∙ or_left (eqb fault_packet q.address) (is_on_queue fault_packet back) (eq-eqb fault_packet q.address (sym first.address))))
 
   comes : Exchange (owned m) (owned after) (fault_packet_words m.fault_packet_free) (fault_packet_words true)
   comes = packet-exchange m true (h.valid.tasks.reporter there)
@@ -90,14 +90,14 @@ module _ (s : List ℕ) (l : Lists) (h : HoldsLists s l) (r : RunsResident l) (t
     queue-is = ap queues.Work at ∙ ap (λ i. queue_for l (Work i)) two
 
     pub take-queue : HasQueue s (head_of (queues.Work t))
-    take-queue = subst (λ z. HasQueue s (head_of z)) (sym queue-is) (stands-at s l (Work 2) h there)
+    take-queue = subst (λ z. HasQueue s (head_of z)) (sym queue-is) (valid-at s l (Work 2) h there)
 
     pub take-packet : has fault_packet (queue_at s (head_of (queues.Work t))) ≡ true
     take-packet =
         subst (λ z. has fault_packet (queue_at s (head_of z)) ≡ true) (sym queue-is)
         (has-at s l (Work 2) h there fault_packet
-        ∙ ap (stands_in fault_packet) is
-        ∙ or_left (eqb fault_packet q.address) (stands_in fault_packet back) (eq-eqb fault_packet q.address (sym first.address)))
+        ∙ ap (is_on_queue fault_packet) is
+        ∙ or_left (eqb fault_packet q.address) (is_on_queue fault_packet back) (eq-eqb fault_packet q.address (sym first.address)))
 
     pub sender-is : get_or s 311 0 ≡ sender_of (work l)
     sender-is = sym (ap (λ a. get_or s (a + 1) 0) first.address) ∙ (held-before s l (Work 2) q [] back h is).holds.1.1.0 ∙ sym (ap sender_of first.is)

@@ -144,16 +144,16 @@ rooms [] ps room = room
 rooms (r ∷ rs) ps room = rooms rs (after ps r).pipes (room-after ps r room)
 
 account-of : (o : Option Pipe) (h : History) → IsHistoryOf h o → Accounts o h
-account-of None h stands = refl
-account-of (Some p) h stands = stands
+account-of None h is-history = refl
+account-of (Some p) h is-history = is-history
 
-stands-for : (o : Option Pipe) (h : History) → h.written ≡ h.read ++ held_by o → IsHistoryOf h o
-stands-for None h account = tt
-stands-for (Some p) h account = account
+history-of : (o : Option Pipe) (h : History) → h.written ≡ h.read ++ held_by o → IsHistoryOf h o
+history-of None h account = tt
+history-of (Some p) h account = account
 
 pub pipe-bytes : (ps : List (Option Pipe)) (i : ℕ) (h : History) (rs : List PipeRequest) → IsHistoryOf h (pipe_at ps i)
     → IsHistoryOf (history_after i ps h rs) (pipe_at (pipes_after ps rs) i)
-pipe-bytes ps i h rs stands = stands-for (pipe_at (pipes_after ps rs) i) (history_after i ps h rs) (accounts rs ps i h (account-of (pipe_at ps i) h stands))
+pipe-bytes ps i h rs is-history = history-of (pipe_at (pipes_after ps rs) i) (history_after i ps h rs) (accounts rs ps i h (account-of (pipe_at ps i) h is-history))
 
 lawful-room : (ps : List (Option Pipe)) → ArePipes ps → HasRoom ps
 lawful-room ps a i = on (pipe_at ps i) refl

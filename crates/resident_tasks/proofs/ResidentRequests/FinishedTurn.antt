@@ -17,7 +17,7 @@ use Rattle.kernel_model.specs.KernelRecord.Owned.{owned}
 use Rattle.kernel_model.specs.KernelRecord.Task.{Task, fault_words, globals_of, is_guest_id, name_words, queue_bit, queue_head, stack_of, state_word, state_words, task_address, task_id, task_words}
 use Rattle.kernel_model.specs.KernelRecord.ValidLists.{AreValid}
 use Rattle.kernel_model.specs.KernelRecord.ValidQueues.Place.{Work}
-use Rattle.kernel_model.specs.KernelRecord.ValidTasks.{CoroutinesStand, IsResident, IsTask}
+use Rattle.kernel_model.specs.KernelRecord.ValidTasks.{AreValidCoroutines, IsResident, IsTask}
 use Rattle.kernel_model.proofs.KernelRecord.AllThings.{all-here}
 use Rattle.kernel_model.proofs.KernelRecord.ChainSplits.{change-between}
 use Rattle.kernel_model.proofs.KernelRecord.ChangedLists.{changed-none, exchange-owned, one_task-owned, owners-exchanged}
@@ -96,11 +96,11 @@ module _ (s : List ℕ) (l : Lists) (h : HoldsLists s l) (r : RunsResident l) (t
     abbrev after : Lists
     after = with_tasks (front ++ waiting task ∷ back) l
 
-    task-stands : IsTask l task
-    task-stands = all-here (IsTask l) front task back (subst (AllByRecursion (IsTask l)) is h.valid.tasks.each)
+    task-valid : IsTask l task
+    task-valid = all-here (IsTask l) front task back (subst (AllByRecursion (IsTask l)) is h.valid.tasks.each)
 
-    coroutines-stand : CoroutinesStand l task
-    coroutines-stand = all-here (CoroutinesStand l) front task back (subst (AllByRecursion (CoroutinesStand l)) is h.valid.coroutines)
+    coroutines-valid : AreValidCoroutines l task
+    coroutines-valid = all-here (AreValidCoroutines l) front task back (subst (AllByRecursion (AreValidCoroutines l)) is h.valid.coroutines)
 
     no_guest : is_guest_id task.id ≡ false
     no_guest = ap is_guest_id (resident-at s l h r).number ∙ r.resident
@@ -118,7 +118,7 @@ module _ (s : List ℕ) (l : Lists) (h : HoldsLists s l) (r : RunsResident l) (t
     waiting-valid : AreValid after
     waiting-valid =
         same_task-valid l front back task (waiting task) h.valid is (record { id = refl; address = refl; priority = refl; queue = refl; coroutines = refl })
-        (resident-waits l task no_guest task-stands) (record { each = coroutines-stand.each; members = coroutines-stand.members; distinct = coroutines-stand.distinct })
+        (resident-waits l task no_guest task-valid) (record { each = coroutines-valid.each; members = coroutines-valid.members; distinct = coroutines-valid.distinct })
 
     waiting-words : set s (t + 4) (get_or s (t + 4) 0 + 4) ≡ set s (task.address + 4) (state_word (waiting task))
     waiting-words = λ i.

@@ -13,9 +13,9 @@ use Rattle.kernel_model.specs.KernelRecord.ChangedStore.{HasKeeper, IsChanged, K
 use Rattle.kernel_model.specs.KernelRecord.Lists.{Lists}
 use Rattle.kernel_model.specs.KernelRecord.Owned.{owned}
 use Rattle.kernel_model.specs.KernelRecord.ValidLists.{AreValid}
-use Rattle.kernel_model.specs.KernelRecord.ValidQueues.{IsFaultPacket, IsKeyPacket, MayStand, Place, is_fault_packet, is_key_packet}
+use Rattle.kernel_model.specs.KernelRecord.ValidQueues.{IsFaultPacket, IsKeyPacket, IsValidPacket, Place, is_fault_packet, is_key_packet}
 use Rattle.kernel_model.specs.KernelRecord.ValidQueues.Place.{Clock, Keyboard, Output, Pending, Work}
-use Rattle.kernel_model.proofs.KernelRecord.QueuePlaces.{place-stands}
+use Rattle.kernel_model.proofs.KernelRecord.QueuePlaces.{valid-at-place}
 use Rattle.kernel_calls.specs.CallAnswers.Made.{IsMade, minus_one}
 use Rattle.kernel_calls.specs.CallAnswers.Outside.{outside}
 use Rattle.kernel_model.proofs.KernelRecord.ChangedLists.{changed-none, changed-then, knows-same}
@@ -41,13 +41,13 @@ number_in Pending = 0
 
 -- the residents' own packets come to the console and to the reporter of faults alone
 pub takes-request : (l : Lists) → AreValid l → RunsResident l → l.running ≢ 2 → l.running ≢ 3 → TakesRequest l
-takes-request l v r not_reporter not_console = record { runs = r; foreign = on (work l) (place-stands l (Work l.running) v r.there) }
+takes-request l v r not_reporter not_console = record { runs = r; foreign = on (work l) (valid-at-place l (Work l.running) v r.there) }
   where
-    on : (ps : List QueuedPacket) → AllByRecursion (MayStand l (Work l.running)) ps → IsForeign l ps
-    on [] stand = tt
-    on (p ∷ ps) stand = (
-      false_from_ne_true (is_key_packet l p) (λ e. (let i : IsKeyPacket (Work l.running) p = stand.0.key e in not_console i.place.0)),
-      false_from_ne_true (is_fault_packet l p) (λ e. (let i : IsFaultPacket (Work l.running) p = stand.0.fault e in not_reporter (ap number_in i.place))),
+    on : (ps : List QueuedPacket) → AllByRecursion (IsValidPacket l (Work l.running)) ps → IsForeign l ps
+    on [] valid-packets = tt
+    on (p ∷ ps) valid-packets = (
+      false_from_ne_true (is_key_packet l p) (λ e. (let i : IsKeyPacket (Work l.running) p = valid-packets.0.key e in not_console i.place.0)),
+      false_from_ne_true (is_fault_packet l p) (λ e. (let i : IsFaultPacket (Work l.running) p = valid-packets.0.fault e in not_reporter (ap number_in i.place))),
     )
 
 -- ---- the keeper
@@ -106,7 +106,7 @@ turn-changed s t v m z p plain x y more =
 pub bytes-written : (s : List ℕ) (l : Lists) (r : Request) (w : Served) → HoldsLists s l → HasRequest s l r → CanServe s l r w → HasWritten s (with_bytes s w.at 0 w.bytes) l r w.at w.bytes
 bytes-written s l r w h q can =
     elim can [
-      | inl none ↦ subst (λ bs. HasWritten s (with_bytes s w.at 0 bs) l r w.at bs) (sym none) (record { lists = changed-none s l h; stands = q })
+      | inl none ↦ subst (λ bs. HasWritten s (with_bytes s w.at 0 bs) l r w.at bs) (sym none) (record { lists = changed-none s l h; has_request = q })
       | inr some ↦ has-written s l r w.at some.0 w.bytes h q (writable-free s l r.packet w.at some.0 some.1) some.2
     ]
 

@@ -18,19 +18,19 @@ use Rattle.kernel_model.specs.KernelRecord.NotedEvents.{NotesAll}
 use Rattle.kernel_model.specs.KernelRecord.Task.{queue_head}
 use Rattle.kernel_model.specs.KernelRecord.ValidBlocks.{AreData}
 use Rattle.kernel_model.specs.KernelRecord.ValidLists.{AreValid}
-use Rattle.kernel_model.specs.KernelRecord.ValidQueues.{MayStand, is_fault_packet, is_key_packet}
+use Rattle.kernel_model.specs.KernelRecord.ValidQueues.{IsValidPacket, is_fault_packet, is_key_packet}
 use Rattle.kernel_model.specs.KernelRecord.ValidQueues.Place.{Work}
 use Rattle.kernel_model.proofs.KernelRecord.ChangedLists.{changed-none}
 use Rattle.kernel_model.proofs.KernelRecord.NotedInTurn.{notes-none, notes-one}
 use Rattle.kernel_model.proofs.KernelRecord.PacketMoves.{unqueued-unowned, unqueued-valid}
-use Rattle.kernel_model.proofs.KernelRecord.QueuePlaces.{place-stands}
+use Rattle.kernel_model.proofs.KernelRecord.QueuePlaces.{valid-at-place}
 use Rattle.kernel_model.specs.WordKinds.Keeper.{AreTogether}
 use Rattle.kernel_model.proofs.WordKinds.KnownWords.{knows-released}
 use Rattle.kernel_calls.specs.PacketCalls.Destinations.{queue_for}
-use Rattle.kernel_calls.specs.PacketCalls.PacketMoves.{stands_in}
+use Rattle.kernel_calls.specs.PacketCalls.PacketMoves.{is_on_queue}
 use Rattle.kernel_calls.specs.PacketCalls.QueueWords.{head_of, unqueued}
 use Rattle.kernel_calls.specs.declared.packet_calls.queues.Queue.TheVariants as queues
-use Rattle.kernel_calls.proofs.PacketCalls.HeldPlaces.{HasFirst, first-there, has-at, held-at, no-packets, stands-at}
+use Rattle.kernel_calls.proofs.PacketCalls.HeldPlaces.{HasFirst, first-there, has-at, held-at, no-packets, valid-at}
 use Rattle.kernel_calls.proofs.PacketCalls.Departure.{departed-changed, held-before, others-kept, owners-departed}
 use Rattle.kernel_calls.specs.PacketCalls.TaskWait.{first_of_queue}
 use Rattle.resident_tasks.specs.ResidentRequests.Requests.{HasRequest, IsForeign, IsTaken, RunsResident, TakesRequest, first_request, request_at, taken, taken_from, words_taken_from, work}
@@ -61,7 +61,7 @@ module _ (s : List ℕ) (tells : List ℕ → Type 0) (room : ℕ) (l : Lists) (
           words = subst (λ ps. s ≡ words_taken_from ps s l) (sym empty) refl;
           runs = subst (λ ps. RunsResident (taken_from ps l).lists) (sym empty) r.runs;
           request = subst (λ ps. None ≡ first_request s ps) (sym empty) refl;
-          stands = tt;
+          there = tt;
         }
 
     pub none-noted : (events : Option (List KernelEvent)) (f : Bool) → NotesAll events events f f (taken l).events
@@ -85,8 +85,8 @@ module _ (s : List ℕ) (tells : List ℕ → Type 0) (room : ℕ) (l : Lists) (
     foreign : (is_key_packet l q ≡ false) × (is_fault_packet l q ≡ false)
     foreign = subst (IsForeign l) first.is r.foreign
 
-    stands : MayStand l (Work l.running) q
-    stands = (subst (AllByRecursion (MayStand l (Work l.running))) first.is (place-stands l (Work l.running) k.lists.valid there)).0
+    valid-packet : IsValidPacket l (Work l.running) q
+    valid-packet = (subst (AllByRecursion (IsValidPacket l (Work l.running))) first.is (valid-at-place l (Work l.running) k.lists.valid there)).0
 
     valid : AreValid m
     valid = unqueued-valid l (Work l.running) q [] back k.lists.valid first.is foreign.0 foreign.1
@@ -95,12 +95,12 @@ module _ (s : List ℕ) (tells : List ℕ → Type 0) (room : ℕ) (l : Lists) (
     queue-is = ap queues.Work at
 
     pub take-queue : HasQueue s (queue_head t)
-    take-queue = subst (λ z. HasQueue s (head_of z)) (sym queue-is) (stands-at s l (Work l.running) k.lists there)
+    take-queue = subst (λ z. HasQueue s (head_of z)) (sym queue-is) (valid-at s l (Work l.running) k.lists there)
 
     pub take-packet : has p (queue_at s (queue_head t)) ≡ true
     take-packet =
         subst (λ z. has p (queue_at s (head_of z)) ≡ true) (sym queue-is)
-        (has-at s l (Work l.running) k.lists there p ∙ ap (stands_in p) first.is ∙ or_left (eqb p q.address) (stands_in p back) (eq-eqb p q.address (sym first.address)))
+        (has-at s l (Work l.running) k.lists there p ∙ ap (is_on_queue p) first.is ∙ or_left (eqb p q.address) (is_on_queue p back) (eq-eqb p q.address (sym first.address)))
 
     module _ (v : List ℕ) (is_left : v ≡ unqueued s (queues.Work t) p) where
       left : v ≡ unqueued s (queue_for l (Work l.running)) q.address
@@ -113,7 +113,7 @@ module _ (s : List ℕ) (tells : List ℕ → Type 0) (room : ℕ) (l : Lists) (
           ∙ (held-before s l (Work l.running) q [] back k.lists first.is).holds.1.1.0
 
       sender-there : has_task (get_or v (p + 1) 0) m.tasks ≡ true
-      sender-there = ap (λ i. has_task i m.tasks) sender ∙ (has_task-work q.sender l.running back l.tasks ∙ stands.sender foreign.0 r.runs.resident)
+      sender-there = ap (λ i. has_task i m.tasks) sender ∙ (has_task-work q.sender l.running back l.tasks ∙ valid-packet.sender foreign.0 r.runs.resident)
 
       has-request : HasRequest v m (request_at v p)
       has-request =
@@ -121,7 +121,7 @@ module _ (s : List ℕ) (tells : List ℕ → Type 0) (room : ℕ) (l : Lists) (
             sender = refl;
             kind = refl;
             there = sender-there;
-            lodged = subst (λ a. AreData l.blocks a 5) first.address stands.lodged;
+            lodged = subst (λ a. AreData l.blocks a 5) first.address valid-packet.lodged;
             plain = subst (λ a. AreUnowned m a (a + 5)) first.address (unqueued-unowned l (Work l.running) q [] back k.lists.valid first.is);
           }
 
@@ -137,7 +137,7 @@ module _ (s : List ℕ) (tells : List ℕ → Type 0) (room : ℕ) (l : Lists) (
             words = subst (λ ps. v ≡ words_taken_from ps s l) (sym first.is) left;
             runs = subst (λ ps. RunsResident (taken_from ps l).lists) (sym first.is) (runs-work l l.running back r.runs);
             request = subst (λ ps. Some (request_at v p) ≡ first_request v ps) (sym first.is) (ap (λ a. Some (request_at v a)) (sym first.address));
-            stands = subst (λ ps. HasRequest v (taken_from ps l).lists (request_at v p)) (sym first.is) has-request;
+            has_request = subst (λ ps. HasRequest v (taken_from ps l).lists (request_at v p)) (sym first.is) has-request;
           }
 
       pub some-noted : (before now : Option (List KernelEvent)) (f g : Bool) → Notes before now f g (Taken (signed (get_or s (t + 1) 0)) p (signed (get_or v (p + 1) 0)))

@@ -125,5 +125,5 @@ module _ (s : List ℕ) (l : Lists) (r : Request) (a n : ℕ) (bytes : List ℕ)
       let words : IsWritten s t (owned l) (written_buffer s a bytes) = record { holds = Holds-same s t (owned l) h.holds owned-stay; others = λ c none. is-written c } in
       record {
         lists = record { lists = record { valid = h.valid; size = long ∙ h.size; holds = words.holds }; size = long; written = words };
-        stands = record { sender = beside 1 (omega arith) ∙ q.sender; kind = beside 2 (omega arith) ∙ q.kind; there = q.there; lodged = q.lodged; plain = q.plain };
+        has_request = record { sender = beside 1 (omega arith) ∙ q.sender; kind = beside 2 (omega arith) ∙ q.kind; there = q.there; lodged = q.lodged; plain = q.plain };
       }

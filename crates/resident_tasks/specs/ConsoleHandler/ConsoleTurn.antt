@@ -124,7 +124,7 @@ console_turn id c k s l = turn_done s (all_parts id (begun s l c k))
 -- ---- what holds between turns
 
 -- the line is finished exactly where the key packet is on no queue, and then no read waits
-pub record KeysStand (l : Lists) (c : Console) : Type 0 where
+pub record LineFits (l : Lists) (c : Console) : Type 0 where
   -- a finished line waits exactly where the key packet is on no queue
   pub finished : c.finished ≡ is_some l.key
   -- no read waits beside a finished line

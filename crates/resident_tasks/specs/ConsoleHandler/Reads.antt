@@ -59,6 +59,6 @@ pub record IsReadTaken (s t : List ℕ) (tells : List ℕ → Type 0) (l : Lists
   -- it is the first read that waited
   pub request : result ≡ first_request t l.pending
   -- its packet is in the store
-  pub stands : IfSome result (λ r. HasRequest t (read_taken l).lists r)
+  pub has_request : IfSome result (λ r. HasRequest t (read_taken l).lists r)
   -- the kernel owned its words before
   pub owns : IfSome result (λ r. OwnsRequest (read_taken l).lists l r)

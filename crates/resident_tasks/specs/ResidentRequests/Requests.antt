@@ -120,4 +120,4 @@ pub record IsTaken (s t : List ℕ) (tells : List ℕ → Type 0) (l : Lists) (r
   -- it is the request of the first packet
   pub request : result ≡ first_request t (work l)
   -- its packet is in the store
-  pub stands : IfSome result (λ r. HasRequest t (taken l).lists r)
+  pub has_request : IfSome result (λ r. HasRequest t (taken l).lists r)

@@ -43,7 +43,7 @@ pub record HasWritten (s t : List ℕ) (l : Lists) (r : Request) (a : ℕ) (byte
   -- the store holds the lists, and the words of the buffer alone have changed
   pub lists : IsChanged s t l (written_buffer s a bytes)
   -- the request is as before
-  pub stands : HasRequest t l r
+  pub has_request : HasRequest t l r
 
 -- ---- a turn in which a request is answered
 

@@ -2,7 +2,7 @@
 ghost use Rattle.std.specs.Prelude.{◌≡◌, List, ℕ};
 ghost use Rattle.kernel_model.specs.KernelRecord.Kernel.{Console};
 ghost use Rattle.kernel_model.specs.KernelRecord.Lists.{Lists};
-ghost use Rattle.resident_tasks.specs.ConsoleHandler.ConsoleTurn.{KeysStand, all_parts};
+ghost use Rattle.resident_tasks.specs.ConsoleHandler.ConsoleTurn.{LineFits, all_parts};
 ghost use Rattle.resident_tasks.specs.ConsoleHandler.Progress.{begun};
 
 use crate::console_handler::requests::{BAD_BUFFER, READ_LINE, WRITE};
@@ -15,6 +15,6 @@ pub fn number_law()
 
 /// After a turn too the line is finished exactly where the key packet is on no queue, and then no read waits.
 pub fn keys_law()
-    ensures { (id : ℕ) (s : List ℕ) (l : Lists) (c : Console) (k : List ℕ) → KeysStand l c
-        → KeysStand (all_parts id (begun s l c k)).lists (all_parts id (begun s l c k)).console }
+    ensures { (id : ℕ) (s : List ℕ) (l : Lists) (c : Console) (k : List ℕ) → LineFits l c
+        → LineFits (all_parts id (begun s l c k)).lists (all_parts id (begun s l c k)).console }
 {}

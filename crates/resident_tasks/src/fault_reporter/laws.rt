@@ -2,7 +2,7 @@
 ghost use Rattle.std.specs.Prelude.{◌≡◌, ℕ, List};
 ghost use Rattle.word_store.specs.declared.registers.Regs.{Regs};
 ghost use Rattle.instruction_set.specs.declared.Fault.{Fault};
-ghost use Rattle.kernel_model.specs.KernelRecord.Between.{FaultsStand};
+ghost use Rattle.kernel_model.specs.KernelRecord.Between.{AreValidFaults};
 ghost use Rattle.kernel_model.specs.KernelRecord.Lists.{Lists};
 ghost use Rattle.kernel_model.specs.KernelRecord.ValidLists.{AreValid};
 ghost use Rattle.kernel_model.specs.KernelDispatch.Dispatch.{CanDispatch};
@@ -14,10 +14,10 @@ ghost use Rattle.resident_tasks.specs.FaultReporter.Recorded.{CanRecord, recorde
 /// The fault packet waits exactly where some fault was not reported yet, from a guest with such a fault: also after a fault was
 /// recorded, and after a turn of the task that reports faults.
 pub fn faults_law()
-    ensures recorded { (l : Lists) (f : Fault) → CanRecord l f → FaultsStand l
-        → FaultsStand (recorded f l) }
+    ensures recorded { (l : Lists) (f : Fault) → CanRecord l f → AreValidFaults l
+        → AreValidFaults (recorded f l) }
     ensures reported { (s : List ℕ) (l : Lists) → AreValid l → RunsResident l → l.running ≡ REPORTER
-        → FaultsStand l → FaultsStand (fault_turn s l).lists }
+        → AreValidFaults l → AreValidFaults (fault_turn s l).lists }
 {}
 
 /// Where a dispatch may follow, it may follow a fault that was recorded, and a turn of the task that reports faults.

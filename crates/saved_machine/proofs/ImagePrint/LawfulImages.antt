@@ -76,7 +76,7 @@ bare-lawful version m go sound numbers sized may = record {
 
 full-lawful : (version : ℕ) (k : Kernel) (go : ℕ) → IsValid k → HasWordsAndBytes (Full k) → MayTake (Full k) go → IsLawful (saved_image version (Full k) go)
 full-lawful version k go valid numbers may =
-    let stand = valid.residents in
+    let residents-valid = valid.residents in
     record {
       version = valid.lists.numbers.version;
       size = subst (λ (n : ℕ). is_store_size k.lists.version n ≡ true) (sym (valid-image k valid).size) valid.lists.numbers.size;
@@ -84,11 +84,11 @@ full-lawful version k go valid numbers may =
       steps = may;
       regs = regs-lawful k.regs numbers.regs valid.registers.byte;
       lines = (numbers.bytes.ahead, numbers.bytes.line, numbers.bytes.command);
-      waits = waits-word k.lists.version k.shell.mode stand.shell.awaited;
+      waits = waits-word k.lists.version k.shell.mode residents-valid.shell.awaited;
       entries = record {
-        files = are-files k.disc.files stand.disc.valid.in_order stand.disc.valid.lawful;
-        streams = are-streams k.disc stand.disc.valid;
-        pipes = are-pipes k.pipes stand.pipes.pipes;
+        files = are-files k.disc.files residents-valid.disc.valid.in_order residents-valid.disc.valid.lawful;
+        streams = are-streams k.disc residents-valid.disc.valid;
+        pipes = are-pipes k.pipes residents-valid.pipes.pipes;
         keys = keys-due k.keys valid.steps.keys;
       };
       files = files-bytes k.disc.files numbers.bytes.files;

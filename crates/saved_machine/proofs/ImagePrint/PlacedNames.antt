@@ -12,7 +12,7 @@ use Rattle.ram_disc.specs.Disc.{AreInOrder, Disc, File, IsDisc, Stream, has_name
 use Rattle.ram_disc.specs.Name.{IsName, is_name}
 use Rattle.ram_disc.proofs.NameLemmas.{name_read, is_name-from}
 use Rattle.kernel_model.specs.KernelRecord.Kernel.{Pipe}
-use Rattle.kernel_model.specs.KernelRecord.Pipes.{ArePipes as StandAsPipes}
+use Rattle.kernel_model.specs.KernelRecord.Pipes.{ArePipes as AreKeptPipes}
 use Rattle.saved_text.specs.ImageForm.{AreFiles, ArePipes, AreStreams, flag}
 use Rattle.saved_text.specs.Ranges.{are_pipe_numbers, are_stream_numbers, is_flag}
 use Rattle.saved_machine.specs.ImagePrint.SavedImage.{with_places, numbered_pipes, numbered_streams, saved_file, saved_pipe, saved_stream}
@@ -81,9 +81,9 @@ are-streams d valid =
 
     fits : (i : ℕ) (s : Stream) → slice_index_or d.streams i None ≡ Some s → IsFit s
     fits i s e =
-        let stands = valid.stand (suc i) s (behind i ∙ e) in
+        let valid-stream = valid.streams (suc i) s (behind i ∙ e) in
         let few = few-bytes s.name d.files in
-        (named-lawful s.name d.files valid.lawful stands.is_there, omega (arith, stands.within, few, valid.room))
+        (named-lawful s.name d.files valid.lawful valid-stream.is_there, omega (arith, valid-stream.within, few, valid.room))
 
 -- ---- pipes
 
@@ -99,5 +99,5 @@ numbered-named (None ∷ ps) k floor low one few named = numbered-named ps (k + 
 numbered-named (Some p ∷ ps) k floor low one few named =
     (low, (pipe-numbers k p.reading p.writing p.written one (omega (arith, few)), is_name-from p.name (named 0 p refl)), numbered-named ps (k + 1) (k + 1) (omega arith) (omega arith) (omega (arith, few)) (λ i q e. named (suc i) q e))
 
-pub are-pipes : (ps : List (Option Pipe)) → StandAsPipes ps → ArePipes 0 (numbered_pipes ps)
+pub are-pipes : (ps : List (Option Pipe)) → AreKeptPipes ps → ArePipes 0 (numbered_pipes ps)
 are-pipes ps h = numbered-named ps 1 0 (omega arith) (omega arith) (let n = h.places in omega (arith, n)) (λ i p e. (h.each i p e).name)

@@ -24,9 +24,9 @@ mode-again Typing = refl
 
 full-again : (version : ℕ) (k : Kernel) (go : ℕ) → IsValid k → k.stop ≡ None → IsMachineOf (saved_image version (Full k) go) (Full k)
 full-again version k go valid goes =
-    let stand = valid.residents in
+    let residents-valid = valid.residents in
     let files = files-again k.disc.files in
-    let streams = streams-again k.disc.streams stand.disc.valid.numbers in (
+    let streams = streams-again k.disc.streams residents-valid.disc.valid.numbers in (
       valid,
       record {
         image = valid-image k valid;
@@ -39,7 +39,7 @@ full-again version k go valid goes =
         disc = sym (λ i. record { files = files i; streams = streams i });
         type_ahead = refl;
         keys = refl;
-        pipes = sym (pipes-again k.pipes stand.pipes.pipes.places);
+        pipes = sym (pipes-again k.pipes residents-valid.pipes.pipes.places);
         goes = goes;
       },
     )

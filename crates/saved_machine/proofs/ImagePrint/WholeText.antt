@@ -77,22 +77,22 @@ kernel-text k go valid =
 -- the word of the version
 pub version-read : (p : KernelParts) (k : Kernel) → RepresentsKernel p k → get_or p.store 111 0 ≡ k.lists.version
 unfolding lists_in
-version-read p k stands =
-    let h = stands.keeper.lists in
+version-read p k represents =
+    let h = represents.keeper.lists in
     ap (λ (l : Lists). l.version) (lists-back p.store k.lists h.valid h.size h.holds)
 
-module _ (p : KernelParts) (k : Kernel) (stands : RepresentsKernel p k) where
+module _ (p : KernelParts) (k : Kernel) (represents : RepresentsKernel p k) where
   -- the text of the parts is that of the kernel: up to the files,
   pub front-same : text_of_lines (head_lines (get_or p.store 111 0) (length p.store) false p.period p.step p.regs) ++ text_of_lines (resident_lines p.tty p.console p.shell) ≡ front_text k
   front-same =
-      ap (λ (n : ℕ). text_of_lines (head_lines n (length p.store) false p.period p.step p.regs) ++ text_of_lines (resident_lines p.tty p.console p.shell)) (version-read p k stands)
-      ∙ ap (λ (n : ℕ). text_of_lines (head_lines k.lists.version n false p.period p.step p.regs) ++ text_of_lines (resident_lines p.tty p.console p.shell)) stands.image.size
-      ∙ (λ i. text_of_lines (head_lines k.lists.version k.lists.size false (stands.period i) (stands.steps i) (stands.regs i)) ++ text_of_lines (resident_lines (stands.type_ahead i) (stands.console i) (stands.shell i)))
+      ap (λ (n : ℕ). text_of_lines (head_lines n (length p.store) false p.period p.step p.regs) ++ text_of_lines (resident_lines p.tty p.console p.shell)) (version-read p k represents)
+      ∙ ap (λ (n : ℕ). text_of_lines (head_lines k.lists.version n false p.period p.step p.regs) ++ text_of_lines (resident_lines p.tty p.console p.shell)) represents.image.size
+      ∙ (λ i. text_of_lines (head_lines k.lists.version k.lists.size false (represents.period i) (represents.steps i) (represents.regs i)) ++ text_of_lines (resident_lines (represents.type_ahead i) (represents.console i) (represents.shell i)))
 
   -- from the files to the keys,
   pub entries-same : disc_text p.disc ++ (statements_text (map pipe_statement (numbered_pipes p.pipes)) ++ statements_text (map key_statement (still_to_come p.keys))) ≡ entries_text k
-  entries-same = λ i. disc_text (stands.disc i) ++ (statements_text (map pipe_statement (numbered_pipes (stands.pipes i))) ++ statements_text (map key_statement (stands.keys i)))
+  entries-same = λ i. disc_text (represents.disc i) ++ (statements_text (map pipe_statement (numbered_pipes (represents.pipes i))) ++ statements_text (map key_statement (represents.keys i)))
 
   -- and the whole
   pub whole-same : (go : ℕ) → IsValid k → front_text k ++ (entries_text k ++ end_text go p.store) ≡ canonical (saved_kernel k go)
-  whole-same go valid = ap (λ (words : List ℕ). front_text k ++ (entries_text k ++ end_text go words)) (image-list p.store k stands.image) ∙ kernel-text k go valid
+  whole-same go valid = ap (λ (words : List ℕ). front_text k ++ (entries_text k ++ end_text go words)) (image-list p.store k represents.image) ∙ kernel-text k go valid

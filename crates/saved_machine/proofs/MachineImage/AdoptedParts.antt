@@ -16,7 +16,7 @@ use Rattle.saved_text.specs.declared.images.Image.{Image}
 use Rattle.saved_text.specs.declared.images.SavedPipe.{SavedPipe}
 use Rattle.saved_machine.specs.MachineImage.Machines.{HasMachine, IsOfKind}
 use Rattle.saved_machine.specs.MachineImage.Parts.{disc_with, others_of, placed_pipes}
-use Rattle.saved_machine.specs.MachineImage.Rules.{ResidentsKeep, StoreStands}
+use Rattle.saved_machine.specs.MachineImage.Rules.{IsValidStore, ResidentsKeep}
 
 keys-due : (keys : List (ℕ × ℕ)) → AllByRecursion (λ (key : ℕ × ℕ). is_step key.0 ≡ true) keys → AllByRecursion (λ (key : ℕ × ℕ). key.0 ≤ most_steps) keys
 keys-due [] all = tt
@@ -28,7 +28,7 @@ module _ (x : Image) where
 
   -- ---- what an adopted kernel gives
 
-  pub store-adopted : Adopted → StoreStands x
+  pub store-adopted : Adopted → IsValidStore x
   unfolding kernel_in
   store-adopted a = record {
     lists = a.lists;
@@ -61,7 +61,7 @@ module _ (x : Image) where
 
   -- ---- and what gives one
 
-  pub adopted-parts : IsLawful x → StoreStands x → ResidentsKeep x → IsDisc (disc_with x.files x.streams) → ArePipes (placed_pipes x.pipes) → Adopted
+  pub adopted-parts : IsLawful x → IsValidStore x → ResidentsKeep x → IsDisc (disc_with x.files x.streams) → ArePipes (placed_pipes x.pipes) → Adopted
   unfolding kernel_in
   adopted-parts lawful s r d p = record {
     lists = s.lists;

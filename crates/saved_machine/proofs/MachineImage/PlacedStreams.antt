@@ -4,8 +4,8 @@ use Rattle.std.specs.Option.{is_none}
 use Rattle.std.specs.Str.{bytes_eq}
 use Rattle.std.proofs.lemmas.Bool.{and_from, and_parts, eq-eqb, false_from_ne_true, false≢true, le-leb, ne_eqb, not_from_false}
 use Rattle.std.proofs.lemmas.Slice.Eq.{bytes_eq-Decides}
-use Rattle.ram_disc.specs.Disc.{Disc, File, IsDisc, StandsOn, Stream, bytes_of, has_file, is_on, is_used, is_written, is_writer_of, most_streams, shell_stream, stream_at}
-use Rattle.ram_disc.specs.DiscCalls.{can_stand, can_write_from, with_place}
+use Rattle.ram_disc.specs.Disc.{Disc, File, IsDisc, IsValidStream, Stream, bytes_of, has_file, is_on, is_used, is_written, is_writer_of, most_streams, shell_stream, stream_at}
+use Rattle.ram_disc.specs.DiscCalls.{can_restore, can_write_from, with_place}
 use Rattle.saved_machine.specs.MachineImage.Placed.{placed}
 use Rattle.saved_machine.proofs.MachineImage.PlacedThings.{AreBelow, Holds, any-where, placed-below, placed-free, placed-more, placed-stays, placed-there}
 
@@ -16,7 +16,7 @@ module _ {A : Type 0} (number : A → ℕ) (stream : A → Stream) (files : List
 
   -- the stream may be set on the disc with those
   abbrev pub CanAdd : List A → A → Bool
-  CanAdd xs a = can_stand (Streamed xs) (number a) (stream a).name (stream a).position (stream a).writes
+  CanAdd xs a = can_restore (Streamed xs) (number a) (stream a).name (stream a).position (stream a).writes
 
   -- with it
   abbrev pub Added : List A → A → Disc
@@ -43,8 +43,8 @@ module _ {A : Type 0} (number : A → ℕ) (stream : A → Stream) (files : List
       here : stream_at Whole (number a) ≡ Some (stream a)
       here = at-number (xs ++ a ∷ ys) ∙ placed-there number stream most_streams xs ys a below low high
 
-      stands : StandsOn Whole (number a) (stream a)
-      stands = d.stand (number a) (stream a) here
+      valid-stream : IsValidStream Whole (number a) (stream a)
+      valid-stream = d.streams (number a) (stream a) here
 
       -- a stream that was set before, which has another number
       earlier : (i : ℕ) (s : Stream) → get_or (placed number stream most_streams xs) i None ≡ Some s
@@ -65,7 +65,7 @@ module _ {A : Type 0} (number : A → ℕ) (stream : A → Stream) (files : List
           let found : Holds (is_writer_of (stream a).name) (placed number stream most_streams xs) = any-where (is_writer_of (stream a).name) (placed number stream most_streams xs) refl e in
           let there = earlier found.0 found.1 found.2 in
           let parts = and_parts (bytes_eq found.1.name (stream a).name) found.1.writes found.3 in
-          let other : StandsOn Whole (found.0 + 1) found.1 = d.stand (found.0 + 1) found.1 there.0 in
+          let other : IsValidStream Whole (found.0 + 1) found.1 = d.streams (found.0 + 1) found.1 there.0 in
           let same : number a ≡ found.0 + 1 = other.alone parts.1 (number a) (stream a) here (sym ((bytes_eq-Decides found.1.name (stream a).name).0 parts.0)) in
           omega (arith, same, there.1))
 
@@ -73,7 +73,7 @@ module _ {A : Type 0} (number : A → ℕ) (stream : A → Stream) (files : List
       unused writes = false_from_ne_true (is_used (Streamed xs) (stream a).name) (λ e.
           let found : Holds (is_on (stream a).name) (placed number stream most_streams xs) = any-where (is_on (stream a).name) (placed number stream most_streams xs) refl e in
           let there = earlier found.0 found.1 found.2 in
-          let same : found.0 + 1 ≡ number a = stands.alone writes (found.0 + 1) found.1 there.0 ((bytes_eq-Decides found.1.name (stream a).name).0 found.3) in
+          let same : found.0 + 1 ≡ number a = valid-stream.alone writes (found.0 + 1) found.1 there.0 ((bytes_eq-Decides found.1.name (stream a).name).0 found.3) in
           omega (arith, same, there.1))
 
       writes-right : (not (stream a).writes || (not (eqb (number a) shell_stream) && can_write_from (Streamed xs) (stream a).name (stream a).position)) ≡ true
@@ -83,9 +83,9 @@ module _ {A : Type 0} (number : A → ℕ) (stream : A → Stream) (files : List
           on false e = refl
           on true e =
               and_from (not (eqb (number a) shell_stream)) (can_write_from (Streamed xs) (stream a).name (stream a).position)
-              (not_from_false (eqb (number a) shell_stream) (ne_eqb (number a) shell_stream (λ f. false≢true (sym (stands.shell_reads f) ∙ e))))
+              (not_from_false (eqb (number a) shell_stream) (ne_eqb (number a) shell_stream (λ f. false≢true (sym (valid-stream.shell_reads f) ∙ e))))
               (and_from (eqb (stream a).position (length (bytes_of (Streamed xs) (stream a).name))) (not (is_used (Streamed xs) (stream a).name))
-              (eq-eqb (stream a).position (length (bytes_of (Streamed xs) (stream a).name)) (stands.at_end e))
+              (eq-eqb (stream a).position (length (bytes_of (Streamed xs) (stream a).name)) (valid-stream.at_end e))
               (not_from_false (is_used (Streamed xs) (stream a).name) (unused e)))
 
       -- on the way to a valid disc each stream may be set
@@ -101,7 +101,7 @@ module _ {A : Type 0} (number : A → ℕ) (stream : A → Stream) (files : List
           (and_from (leb 1 k && leb k most_streams && is_none (stream_at (Streamed xs) k) && there) within
           (and_from (leb 1 k && leb k most_streams && is_none (stream_at (Streamed xs) k)) there
           (and_from (leb 1 k && leb k most_streams) (is_none (stream_at (Streamed xs) k)) (and_from (leb 1 k) (leb k most_streams) (le-leb 1 k low) (le-leb k most_streams high)) free)
-          stands.is_there)
-          (le-leb (stream a).position (length (bytes_of (Streamed xs) (stream a).name)) stands.within))
+          valid-stream.is_there)
+          (le-leb (stream a).position (length (bytes_of (Streamed xs) (stream a).name)) valid-stream.within))
           (not_from_false (is_written (Streamed xs) (stream a).name) unwritten))
           writes-right

@@ -7,7 +7,7 @@ use Rattle.std.proofs.lemmas.Bool.{cases_lt, eqb-false, eqb-true, false≢true}
 use Rattle.std.proofs.lemmas.List.{get_or-replicate, nil_from_length}
 use Rattle.std.proofs.lemmas.Option.{none-some}
 use Rattle.ram_disc.specs.Disc.{Stream, most_streams, shell_stream, stream_at}
-use Rattle.kernel_model.specs.KernelRecord.Between.{AreShut, ShellStands, is_typing}
+use Rattle.kernel_model.specs.KernelRecord.Between.{AreShut, IsValidShell, is_typing}
 use Rattle.kernel_model.specs.KernelRecord.Lists.{Lists}
 use Rattle.kernel_model.specs.KernelRecord.Pipes.{most_pipes, no_pipes}
 use Rattle.saved_text.specs.ImageForm.{ArePipes as AreSavedPipes, AreStreams}
@@ -56,8 +56,8 @@ module _ (x : Image) (lent : List SavedStream) (is : lent ≡ x.streams) (t u : 
   pub shell-types : not (beq t u) ≡ false → is_some (stream_at (disc_with x.files x.streams) shell_stream) ≡ is_typing (mode_of x.mode)
   shell-types same = open-is ∙ bools-same t u same ∙ typing
 
-  pub shell-mistaken : (l : Lists) → not (beq t u) ≡ true → ShellStands l (shell_of x) (disc_with x.files x.streams) → ⊥
-  shell-mistaken l other stands = bools-differ t u other (sym open-is ∙ stands.typing ∙ sym typing)
+  pub shell-mistaken : (l : Lists) → not (beq t u) ≡ true → IsValidShell l (shell_of x) (disc_with x.files x.streams) → ⊥
+  shell-mistaken l other valid-shell = bools-differ t u other (sym open-is ∙ valid-shell.typing ∙ sym typing)
 
 -- ---- no stream, and no pipe
 

@@ -44,8 +44,8 @@ module _ (x : Image) (bare : x.bare ≡ true) (lawful : IsLawful x) where
 -- ---- a machine with a kernel
 
 -- the parts stand for the kernel
-pub parts-stand : (x : Image) (p : Parts) (k : Kernel) → AreParts x p → IsValid k → StoreRepresentsKernel x.store (others_of x) k → RepresentsKernel p k
-parts-stand x p k m v st =
+pub parts-represent : (x : Image) (p : Parts) (k : Kernel) → AreParts x p → IsValid k → StoreRepresentsKernel x.store (others_of x) k → RepresentsKernel p k
+parts-represent x p k m v st =
     let held : HoldsLists x.store k.lists = record { valid = v.lists; size = st.image.size; holds = st.image.holds } in
     record {
       keeper =

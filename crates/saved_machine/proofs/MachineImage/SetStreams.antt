@@ -2,7 +2,7 @@
 use Rattle.std.proofs.Common.{◌≡◌, ℕ, ◌+◌, ◌<◌, ◌≤◌, List, [], ◌∷◌, length, get_or, take, drop, suc, cond, leb, ltb, ◌&&◌, true, false, sym, ap, ◌∙◌, subst}
 use Rattle.std.proofs.lemmas.Bool.{and_parts, both_ways, leb-true}
 use Rattle.ram_disc.specs.Disc.{Disc, IsDisc, most_streams}
-use Rattle.ram_disc.specs.DiscCalls.{after_restore, can_stand, with_place}
+use Rattle.ram_disc.specs.DiscCalls.{after_restore, can_restore, with_place}
 use Rattle.kernel_boot.specs.BootFiles.{HasNoStreams}
 use Rattle.saved_text.specs.ImageForm.{AreStreams, flag}
 use Rattle.saved_text.specs.Ranges.{is_flag}
@@ -35,7 +35,7 @@ module _ (d : Disc) (ss : List SavedStream) (are : AreStreams 0 ss) (i : ℕ) (s
       (subst (Rise number stream_of most_streams 0) (split-at ss i s low is) (streams-rise 0 ss are))
 
   -- the next one was set
-  pub next-set : (e f : Disc) → e ≡ with_streams d (take i ss) → can_stand e s.k s.name s.position s.writes ≡ true
+  pub next-set : (e f : Disc) → e ≡ with_streams d (take i ss) → can_restore e s.k s.name s.position s.writes ≡ true
       → f ≡ after_restore e s.k s.name s.position s.writes → f ≡ with_streams d (take (i + 1) ss)
   next-set e f before can after =
       after
@@ -45,9 +45,9 @@ module _ (d : Disc) (ss : List SavedStream) (are : AreStreams 0 ss) (i : ℕ) (s
       ∙ ap (with_streams d) (sym (take-at ss i s low is))
 
   -- where it may not be set, the whole is no disc
-  pub next-refused : (e : Disc) → e ≡ with_streams d (take i ss) → can_stand e s.k s.name s.position s.writes ≡ false → IsDisc (with_streams d ss) → ⊥
+  pub next-refused : (e : Disc) → e ≡ with_streams d (take i ss) → can_restore e s.k s.name s.position s.writes ≡ false → IsDisc (with_streams d ss) → ⊥
   next-refused e before cannot whole =
-      both_ways (can_stand (with_streams d (take i ss)) s.k s.name s.position s.writes)
-      (ap (λ g. can_stand g s.k s.name s.position s.writes) (sym before) ∙ cannot)
+      both_ways (can_restore (with_streams d (take i ss)) s.k s.name s.position s.writes)
+      (ap (λ g. can_restore g s.k s.name s.position s.writes) (sym before) ∙ cannot)
       (can-add number stream_of d.files (take i ss) s ranges.1 ranges.2 ranges.3 (drop (suc i) ss)
       (subst (λ xs. IsDisc (with_streams d xs)) (split-at ss i s low is) whole))

@@ -1,6 +1,6 @@
 -- What is decided of a saved machine with a kernel: the words of its store, and the parts beside them.
 use Rattle.std.specs.Prelude.{◌≡◌, ◌/◌, ◌≤◌, false, length}
-use Rattle.kernel_model.specs.KernelRecord.Between.{AreShut, ConsoleStands, FaultsStand, FirstRuns, RegistersStand, ShellStands}
+use Rattle.kernel_model.specs.KernelRecord.Between.{AreShut, AreValidFaults, AreValidRegisters, FirstRuns, IsValidConsole, IsValidShell}
 use Rattle.kernel_model.specs.KernelRecord.HoldsLists.{HoldsLists}
 use Rattle.kernel_model.specs.KernelRecord.Lists.{Lists}
 use Rattle.kernel_model.specs.KernelRecord.Pipes.{no_pipes}
@@ -13,7 +13,7 @@ abbrev pub lists_of : Image → Lists
 lists_of x = lists_in x.store
 
 -- The store holds the words of valid lists, and the version, the clock, the registers and the steps are as these lists have it.
-pub record StoreStands (x : Image) : Type 0 where
+pub record IsValidStore (x : Image) : Type 0 where
   -- the lists
   pub lists : HoldsLists x.store (lists_of x)
   -- the version is the one that the store tells
@@ -25,16 +25,16 @@ pub record StoreStands (x : Image) : Type 0 where
   -- the first ready task runs
   pub running : FirstRuns (lists_of x)
   -- the registers
-  pub registers : RegistersStand (lists_of x) x.regs
+  pub registers : AreValidRegisters (lists_of x) x.regs
   -- the fault packet
-  pub faults : FaultsStand (lists_of x)
+  pub faults : AreValidFaults (lists_of x)
 
 -- What residents keep is as the lists have it, but for what is a disc, and what are pipes.
 pub record ResidentsKeep (x : Image) : Type 0 where
   -- the console's line
-  pub console : ConsoleStands (lists_of x) (console_of x)
+  pub console : IsValidConsole (lists_of x) (console_of x)
   -- what the shell does, and its line
-  pub shell : ShellStands (lists_of x) (shell_of x) (disc_with x.files x.streams)
+  pub shell : IsValidShell (lists_of x) (shell_of x) (disc_with x.files x.streams)
   -- without residents no stream is open
   pub shut : (lists_of x).residents ≡ false → AreShut (disc_with x.files x.streams).streams
   -- without residents there is no pipe

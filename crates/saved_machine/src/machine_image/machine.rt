@@ -7,7 +7,7 @@ use crate::machine_image::discs::disc_of;
 use crate::machine_image::parts::{KeptParts, made_parts, parts_of};
 use crate::machine_image::pipes::pipes_of;
 use crate::machine_image::resident_rules::residents_keep;
-use crate::machine_image::store_rules::store_stands;
+use crate::machine_image::store_rules::is_valid_store;
 use bare_machine::BareParts;
 use byte_streams::WantMemory;
 use saved_text::Image;
@@ -61,7 +61,7 @@ fn kept_parts(alloc: Global, image: &Image) -> Result<Option<KeptParts>, WantMem
     ensures { IfOk result (λ found.
         MatchOption found (HasMachine image.now → ⊥) (AreKept image.now)) }
 {
-    if !store_stands(alloc, image)? {
+    if !is_valid_store(alloc, image)? {
         return Ok(None);
     }
     if !residents_keep(image) {

@@ -1,7 +1,7 @@
 // Whether what the residents of a saved machine keep is as the lists of its store have it.
 ghost use Rattle.std.specs.Prelude.{◌≡◌, ◌≢◌, ◌==◌, ◌↔◌, ◌≤◌, IsTrue, false, true};
 ghost use Rattle.std.specs.List.{list_any};
-ghost use Rattle.kernel_model.specs.KernelRecord.Between.{AreShut, IsAwaited, ShellStands, is_typing};
+ghost use Rattle.kernel_model.specs.KernelRecord.Between.{AreShut, IsAwaited, IsValidShell, is_typing};
 ghost use Rattle.kernel_model.specs.KernelRecord.HoldsLists.{HoldsLists};
 ghost use Rattle.kernel_model.specs.KernelRecord.Kernel.{no_command};
 ghost use Rattle.kernel_model.specs.KernelRecord.Pipes.{no_pipes};
@@ -12,7 +12,7 @@ ghost use Rattle.saved_machine.specs.MachineImage.Parts.{disc_with, mode_of, pla
 ghost use Rattle.saved_machine.specs.MachineImage.Rules.{ResidentsKeep, lists_of};
 
 use crate::machine_image::store_rules::version_of;
-use kernel_check::{console_stands, has_residents, highest_of};
+use kernel_check::{has_residents, highest_of, is_valid_console};
 use kernel_lists::FIRST_GUEST;
 use kernel_model::numbers::{MOST_AHEAD, MOST_LINE};
 use ram_disc::codes::SHELL_STREAM;
@@ -25,10 +25,10 @@ pub(crate) fn residents_keep(image: &Image) -> bool
     requires entries { AreEntries image.now }
     ensures { IsTrue result ↔ ResidentsKeep image.now }
 {
-    if !console_stands(&image.store, image.line.as_slice(), image.finished) {
+    if !is_valid_console(&image.store, image.line.as_slice(), image.finished) {
         return false;
     }
-    if !shell_stands(image) {
+    if !is_valid_shell(image) {
         return false;
     }
     if !streams_may_be(image) {
@@ -41,8 +41,8 @@ pub(crate) fn residents_keep(image: &Image) -> bool
 }
 
 // Whether the shell is as the lists and its stream have it.
-fn shell_stands(image: &Image) -> bool
-    ensures { IsTrue result ↔ ShellStands (lists_of image.now) (shell_of image.now)
+fn is_valid_shell(image: &Image) -> bool
+    ensures { IsTrue result ↔ IsValidShell (lists_of image.now) (shell_of image.now)
         (disc_with image.now.files image.now.streams) }
 {
     if types(image.streams.as_slice()) != is_typing(image.mode) {

@@ -2,10 +2,12 @@
 ghost use Rattle.std.specs.Prelude.{◌≡◌, ◌↔◌, IfOk, IsTrue};
 ghost use Rattle.kernel_model.specs.KernelRecord.HoldsLists.{HoldsLists};
 ghost use Rattle.kernel_model.specs.KernelRecord.Recovered.{lists_in};
-ghost use Rattle.saved_machine.specs.MachineImage.Rules.{StoreStands, lists_of};
+ghost use Rattle.saved_machine.specs.MachineImage.Rules.{IsValidStore, lists_of};
 
 use byte_streams::WantMemory;
-use kernel_check::{faults_stand, first_runs, holds_lists, registers_stand, ticks_stand};
+use kernel_check::{
+    are_valid_faults, are_valid_registers, are_valid_ticks, first_runs, holds_lists,
+};
 use kernel_lists::{RootField, root};
 use saved_text::Image;
 use std::alloc::Global;
@@ -13,8 +15,8 @@ use word_store::Store;
 
 /// Whether the store holds the words of valid lists, and version, clock, registers and steps are as these have it. `WantMemory`
 /// comes only where memory could not be had.
-pub(crate) fn store_stands(alloc: Global, image: &Image) -> Result<bool, WantMemory>
-    ensures { IfOk result (λ b. IsTrue b ↔ StoreStands image.now) }
+pub(crate) fn is_valid_store(alloc: Global, image: &Image) -> Result<bool, WantMemory>
+    ensures { IfOk result (λ b. IsTrue b ↔ IsValidStore image.now) }
 {
     if !holds_lists(alloc, &image.store)? {
         return Ok(false);
@@ -25,21 +27,21 @@ pub(crate) fn store_stands(alloc: Global, image: &Image) -> Result<bool, WantMem
 // The same where the store holds the words of valid lists.
 fn lists_tell(image: &Image) -> bool
     requires { HoldsLists image.now.store (lists_of image.now) }
-    ensures { IsTrue result ↔ StoreStands image.now }
+    ensures { IsTrue result ↔ IsValidStore image.now }
 {
     if !root_tells(image) {
         return false;
     }
-    if !ticks_stand(&image.store, image.step) {
+    if !are_valid_ticks(&image.store, image.step) {
         return false;
     }
     if !first_runs(&image.store) {
         return false;
     }
-    if !registers_stand(&image.store, &image.regs) {
+    if !are_valid_registers(&image.store, &image.regs) {
         return false;
     }
-    faults_stand(&image.store)
+    are_valid_faults(&image.store)
 }
 
 // Whether the root has the version and the period.

@@ -9,7 +9,7 @@ use Rattle.kernel_lists.specs.LinkedList.Places.{without_first}
 use Rattle.word_store.proofs.Elements.{all-append}
 use Rattle.kernel_lists.specs.PacketQueue.QueueWords.{QueuedPacket}
 use Rattle.ram_disc.specs.Disc.{Disc}
-use Rattle.kernel_model.specs.KernelRecord.Between.{FaultsStand, Tells, has_unreported, is_unreported}
+use Rattle.kernel_model.specs.KernelRecord.Between.{AreValidFaults, Tells, has_unreported, is_unreported}
 use Rattle.kernel_model.specs.KernelRecord.Changes.{change_of, with_queue, with_tasks, work_of}
 use Rattle.kernel_model.specs.KernelRecord.Lists.{Lists, has_task}
 use Rattle.kernel_model.specs.KernelRecord.Residents.{fault_packet}
@@ -20,7 +20,7 @@ use Rattle.kernel_model.proofs.KernelRecord.AllThings.{all-fail}
 use Rattle.resident_tasks.proofs.FaultReporter.FaultPacket.{free-is}
 use Rattle.kernel_calls.specs.TaskCalls.DeleteTask.{has_packet_out, resident_packets}
 use Rattle.kernel_boot.specs.BegunTask.{begun as begun_task}
-use Rattle.kernel_model.specs.KernelRecord.Standing.{Standing}
+use Rattle.kernel_model.specs.KernelRecord.StoreWithLists.{StoreWithLists}
 use Rattle.kernel_model.specs.declared.kernel_record.numbers.TheConstants.{SHELL_PACKET}
 use Rattle.shell.specs.ShellPrograms.ClearedTasks.{cleared}
 use Rattle.shell.specs.ShellPrograms.StartedProgram.{begun, start_program}
@@ -46,7 +46,7 @@ pub record SameFaults (l m : Lists) : Type 0 where
   pub own : (id : ℕ) → has_unreported id m.tasks ≡ has_unreported id l.tasks
   pub work : work_of 2 m.tasks ≡ work_of 2 l.tasks
 
-pub faults-same : (l m : Lists) → SameFaults l m → FaultsStand l → FaultsStand m
+pub faults-same : (l m : Lists) → SameFaults l m → AreValidFaults l → AreValidFaults m
 faults-same l m x h =
     record {
       waits = λ there. x.free ∙ h.waits (sym x.there ∙ there) ∙ ap not (sym x.any);
@@ -61,7 +61,7 @@ no-fault t e = ap (λ n. leb 1 n && ltb n 256) e
 no-own : (id : ℕ) (t : Task) → is_unreported t ≡ false → (eqb t.id id && is_guest_id id && is_unreported t) ≡ false
 no-own id t e = ap (λ b. eqb t.id id && is_guest_id id && b) e ∙ and-false (eqb t.id id && is_guest_id id)
 
-faults-new : AllowsNew FaultsStand
+faults-new : AllowsNew AreValidFaults
 faults-new l t p h =
     faults-same l _
     (record {
@@ -72,13 +72,13 @@ faults-new l t p h =
       work = work-inserted _ t 2 (other-number t.id 2 p.guest refl) l.tasks;
     }) h
 
-faults-beside : AllowsBlocks FaultsStand
+faults-beside : AllowsBlocks AreValidFaults
 faults-beside l bs ms h = record { waits = h.waits; sender = h.sender }
 
-pub started-faults : (d : Disc) (name : List ℕ) (rest : Result (Unit {0}) ℕ) (pri : Priority) (k : Standing) → FaultsStand k.lists → FaultsStand (start_program d name rest pri k).left.lists
-started-faults d name rest pri k h = started-keeps FaultsStand faults-beside faults-new d name rest pri k h
+pub started-faults : (d : Disc) (name : List ℕ) (rest : Result (Unit {0}) ℕ) (pri : Priority) (k : StoreWithLists) → AreValidFaults k.lists → AreValidFaults (start_program d name rest pri k).left.lists
+started-faults d name rest pri k h = started-keeps AreValidFaults faults-beside faults-new d name rest pri k h
 
-pub begun-faults : (id : ℕ) (k : Standing) → FaultsStand k.lists → FaultsStand (begun id k).lists
+pub begun-faults : (id : ℕ) (k : StoreWithLists) → AreValidFaults k.lists → AreValidFaults (begun id k).lists
 begun-faults n k h =
     let f : Task → Task = begun_task k.lists.version k.words in
     faults-same k.lists (begun n k).lists
@@ -95,7 +95,7 @@ begun-faults n k h =
 -- the fault packet waits where it is on a queue
 record FaultsQueued (l : Lists) : Type 0 where
   free : has_task 2 l.tasks ≡ true → l.fault_packet_free ≡ not (list_any (λ q. eqb fault_packet q.address) (work_of 2 l.tasks))
-  wait : FaultsStand l
+  wait : AreValidFaults l
 
 -- the reporter has no packet from a guest of which none is out
 pub none-from : (n : ℕ) (ts : List Task) → list_any (λ p. eqb p.sender n) (flat_map resident_packets ts) ≡ false → AllByRecursion (λ p. eqb p.sender n ≡ false) (work_of 2 ts)
@@ -189,7 +189,7 @@ module _ (l : Lists) (n : ℕ) (guest : is_guest_id n ≡ true) (out : has_packe
           let free : l.fault_packet_free ≡ true = h.free there ∙ ap not away in
           free ∙ ap not (sym (any-fewer f is_unreported l.tasks (none (list_any is_unreported l.tasks) (sym free ∙ h.wait.waits there))))
 
-pub cleared-faults : (k : Standing) → AreValid k.lists → FaultsStand k.lists → FaultsStand (cleared k).lists
+pub cleared-faults : (k : StoreWithLists) → AreValid k.lists → AreValidFaults k.lists → AreValidFaults (cleared k).lists
 cleared-faults k v h =
     (cleared-keeps FaultsQueued (λ l bs ms y. record { free = y.free; wait = record { waits = y.wait.waits; sender = y.wait.sender } }) faults-gone k
     (record {
@@ -217,8 +217,8 @@ all-work P n ps (t ∷ ts) new all = on (eqb t.id n) (eqb t.id 2) refl refl all 
     on false true e f all more = subst (λ b. AllByRecursion P (cond b t.queue (work_of 2 rest))) (sym f) all
     on false false e f all more = subst (λ b. AllByRecursion P (cond b t.queue (work_of 2 rest))) (sym f) (more all)
 
-pub posted-faults : (to : ℕ) (k : Standing) → to ≤ 63 → FaultsStand k.lists → FaultsStand (posted to k).lists
-posted-faults to k low h = subst FaultsStand (sym (posted-is to k low)) x
+pub posted-faults : (to : ℕ) (k : StoreWithLists) → to ≤ 63 → AreValidFaults k.lists → AreValidFaults (posted to k).lists
+posted-faults to k low h = subst AreValidFaults (sym (posted-is to k low)) x
   where
     l : Lists
     l = k.lists
@@ -237,7 +237,7 @@ posted-faults to k low h = subst FaultsStand (sym (posted-is to k low)) x
         all-append (Tells l.tasks) (work_of to l.tasks) (sent_packet k.words l (Work to) SHELL_PACKET 1 ∷ [])
         (subst (λ i. AllByRecursion (Tells l.tasks) (work_of i l.tasks)) (sym e) h.sender) ((λ e. absurd (false≢true e)), tt)
 
-    x : FaultsStand after
+    x : AreValidFaults after
     x =
         record {
           waits = λ there.

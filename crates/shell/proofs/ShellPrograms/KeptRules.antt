@@ -10,7 +10,7 @@ use Rattle.kernel_model.specs.KernelRecord.Task.{Task, is_guest_id}
 use Rattle.kernel_model.specs.KernelRecord.ValidTasks.{dead, interrupted, runs}
 use Rattle.kernel_model.proofs.KernelRecord.AllThings.{all-inserted}
 use Rattle.kernel_boot.specs.BegunTask.{begun as begun_task}
-use Rattle.kernel_model.specs.KernelRecord.Standing.{Standing}
+use Rattle.kernel_model.specs.KernelRecord.StoreWithLists.{StoreWithLists}
 use Rattle.resident_tasks.specs.ResidentRequests.Requests.{RunsResident}
 use Rattle.shell.specs.ShellPrograms.ClearedTasks.{cleared}
 use Rattle.shell.specs.ShellPrograms.KeptLists.{KeepsResidents, ResidentAlone}
@@ -52,13 +52,13 @@ module _ (l : Lists) where
   resident-same : KeepsResidents l l
   resident-same = record { rest = refl; there = λ id resident. refl; work = λ id resident. refl }
 
-pub cleared-residents : (k : Standing) → KeepsResidents k.lists (cleared k).lists
+pub cleared-residents : (k : StoreWithLists) → KeepsResidents k.lists (cleared k).lists
 cleared-residents k = cleared-keeps (KeepsResidents k.lists) (resident-blocks k.lists) (resident-gone k.lists) k (resident-same k.lists)
 
-pub started-residents : (d : Disc) (name : List ℕ) (rest : Result (Unit {0}) ℕ) (pri : Priority) (k : Standing) → KeepsResidents k.lists (start_program d name rest pri k).left.lists
+pub started-residents : (d : Disc) (name : List ℕ) (rest : Result (Unit {0}) ℕ) (pri : Priority) (k : StoreWithLists) → KeepsResidents k.lists (start_program d name rest pri k).left.lists
 started-residents d name rest pri k = started-keeps (KeepsResidents k.lists) (resident-blocks k.lists) (resident-new k.lists) d name rest pri k (resident-same k.lists)
 
-pub begun-residents : (id : ℕ) (k : Standing) → KeepsResidents k.lists (begun id k).lists
+pub begun-residents : (id : ℕ) (k : StoreWithLists) → KeepsResidents k.lists (begun id k).lists
 begun-residents n k =
     record {
       rest = refl;
@@ -68,12 +68,12 @@ begun-residents n k =
 
 -- ---- all queued packets stay
 
-pub started-packets : (d : Disc) (name : List ℕ) (rest : Result (Unit {0}) ℕ) (pri : Priority) (k : Standing) → queued (start_program d name rest pri k).left.lists ≡ queued k.lists
+pub started-packets : (d : Disc) (name : List ℕ) (rest : Result (Unit {0}) ℕ) (pri : Priority) (k : StoreWithLists) → queued (start_program d name rest pri k).left.lists ≡ queued k.lists
 started-packets d name rest pri k =
     started-keeps (λ m. queued m ≡ queued k.lists) (λ m bs ms h. h)
     (λ m t p h. ap (λ ps. ps ++ (m.clock ++ (m.keyboard ++ (m.output ++ m.pending)))) (queues-inserted _ t p.queue m.tasks) ∙ h) d name rest pri k refl
 
-pub begun-packets : (id : ℕ) (k : Standing) → queued (begun id k).lists ≡ queued k.lists
+pub begun-packets : (id : ℕ) (k : StoreWithLists) → queued (begun id k).lists ≡ queued k.lists
 begun-packets n k =
     ap (λ ps. ps ++ (k.lists.clock ++ (k.lists.keyboard ++ (k.lists.output ++ k.lists.pending)))) (queues-changed n (begun_task k.lists.version k.words) (λ t. refl) k.lists.tasks)
 
@@ -125,30 +125,30 @@ module _ (n : ℕ) (resident : is_guest_id n ≡ false) where
   alone-on : (m : Lists) → Alone m → ResidentAlone m
   alone-on m h = record { resident = ap is_guest_id h.0 ∙ resident; field = subst (λ i. AllByRecursion (λ t. t.field ≡ runs → t.id ≡ i) m.tasks) (sym h.0) h.1 }
 
-pub cleared-runs : (k : Standing) → RunsResident k.lists → RunsResident (cleared k).lists
+pub cleared-runs : (k : StoreWithLists) → RunsResident k.lists → RunsResident (cleared k).lists
 cleared-runs k r =
     let n : ℕ = k.lists.running in
     goes-on n r.resident (cleared k).lists (cleared-keeps (Goes n r.resident) (λ m bs ms h. h) (goes-gone n r.resident) k (goes n r.resident k.lists refl r))
 
-pub cleared-alone : (k : Standing) → ResidentAlone k.lists → ResidentAlone (cleared k).lists
+pub cleared-alone : (k : StoreWithLists) → ResidentAlone k.lists → ResidentAlone (cleared k).lists
 cleared-alone k r =
     let n : ℕ = k.lists.running in
     alone-on n r.resident (cleared k).lists
     (cleared-keeps (Alone n r.resident) (λ m bs ms h. h) (λ m i guest out h. (h.0, all-without (λ t. eqb t.id i) (λ t. t.field ≡ runs → t.id ≡ n) m.tasks h.1)) k (alone n r.resident k.lists refl r))
 
-pub started-runs : (d : Disc) (name : List ℕ) (rest : Result (Unit {0}) ℕ) (pri : Priority) (k : Standing) → RunsResident k.lists → RunsResident (start_program d name rest pri k).left.lists
+pub started-runs : (d : Disc) (name : List ℕ) (rest : Result (Unit {0}) ℕ) (pri : Priority) (k : StoreWithLists) → RunsResident k.lists → RunsResident (start_program d name rest pri k).left.lists
 started-runs d name rest pri k r =
     let n : ℕ = k.lists.running in
     goes-on n r.resident (start_program d name rest pri k).left.lists
     (started-keeps (Goes n r.resident) (λ m bs ms h. h) (goes-new n r.resident) d name rest pri k (goes n r.resident k.lists refl r))
 
-pub started-alone : (d : Disc) (name : List ℕ) (rest : Result (Unit {0}) ℕ) (pri : Priority) (k : Standing) → ResidentAlone k.lists → ResidentAlone (start_program d name rest pri k).left.lists
+pub started-alone : (d : Disc) (name : List ℕ) (rest : Result (Unit {0}) ℕ) (pri : Priority) (k : StoreWithLists) → ResidentAlone k.lists → ResidentAlone (start_program d name rest pri k).left.lists
 started-alone d name rest pri k r =
     let n : ℕ = k.lists.running in
     alone-on n r.resident (start_program d name rest pri k).left.lists
     (started-keeps (Alone n r.resident) (λ m bs ms h. h) (alone-new n r.resident) d name rest pri k (alone n r.resident k.lists refl r))
 
-pub begun-runs : (id : ℕ) (k : Standing) → is_guest_id id ≡ true → RunsResident k.lists → RunsResident (begun id k).lists
+pub begun-runs : (id : ℕ) (k : StoreWithLists) → is_guest_id id ≡ true → RunsResident k.lists → RunsResident (begun id k).lists
 begun-runs id k guest r =
     record {
       resident = r.resident;
@@ -158,7 +158,7 @@ begun-runs id k guest r =
           (λ t e h same. absurd (false≢true (sym r.resident ∙ sym (ap is_guest_id same) ∙ ap is_guest_id (eqb-true t.id id e) ∙ guest))) k.lists.tasks r.field;
     }
 
-pub begun-alone : (id : ℕ) (k : Standing) → ResidentAlone k.lists → ResidentAlone (begun id k).lists
+pub begun-alone : (id : ℕ) (k : StoreWithLists) → ResidentAlone k.lists → ResidentAlone (begun id k).lists
 begun-alone id k r =
     record {
       resident = r.resident;

@@ -33,10 +33,10 @@ use Rattle.kernel_lists.specs.HunkLoader.ModuleExchanges.{hunk_words}
 use Rattle.kernel_calls.specs.BlockCalls.Getvec.{getvec_tests}
 use Rattle.kernel_calls.specs.CallAnswers.Modules.{has_module}
 use Rattle.kernel_calls.specs.CallAnswers.Tasks.{is_dead}
-use Rattle.kernel_model.specs.KernelRecord.Standing.{Standing}
+use Rattle.kernel_model.specs.KernelRecord.StoreWithLists.{StoreWithLists}
 use Rattle.kernel_boot.specs.BootTasks.{load_text}
 use Rattle.shell.specs.ShellPrograms.ClearedTasks.{after_deletion, cleared, cleared_all, cleared_at, cleared_task, deleted, first_module_of}
-use Rattle.shell.specs.ShellPrograms.Standings.{left_by}
+use Rattle.shell.specs.ShellPrograms.StoresWithLists.{left_by}
 use Rattle.shell.specs.ShellPrograms.StartedProgram.{after_creation, after_loading, creation, load_found, load_program, priority_of, start_program}
 use Rattle.shell.specs.declared.shell_programs.programs.Priority.{Priority}
 use Rattle.kernel_boot.proofs.StartedTasks.{created}
@@ -119,7 +119,7 @@ module _ (P : Lists → Type 0) (beside : AllowsBlocks P) where
 
     -- ---- clearing up
 
-    cleared_at-keeps : (id : ℕ) (k : Standing) → 5 ≤ id → P k.lists → P (cleared_at id k).lists
+    cleared_at-keeps : (id : ℕ) (k : StoreWithLists) → 5 ≤ id → P k.lists → P (cleared_at id k).lists
     cleared_at-keeps id k low h = on (find (λ t. eqb t.id id) k.lists.tasks)
       where
         first : P (delete_task k.lists id).lists
@@ -137,14 +137,14 @@ module _ (P : Lists → Type 0) (beside : AllowsBlocks P) where
         on None = h
         on (Some t) = own (eqb t.maker 1) (first_module_of t)
 
-    cleared_all-keeps : (id n : ℕ) (k : Standing) → 5 ≤ id → P k.lists → P (cleared_all (range_with_len id n) k).lists
+    cleared_all-keeps : (id n : ℕ) (k : StoreWithLists) → 5 ≤ id → P k.lists → P (cleared_all (range_with_len id n) k).lists
     cleared_all-keeps id zero k low h = h
     cleared_all-keeps id (suc n) k low h = cleared_all-keeps (id + 1) n (cleared_at id k) (omega (arith, low)) (cleared_at-keeps id k low h)
 
-    pub one-cleared : (id : ℕ) (k : Standing) → 5 ≤ id → P k.lists → P (cleared_at id k).lists
+    pub one-cleared : (id : ℕ) (k : StoreWithLists) → 5 ≤ id → P k.lists → P (cleared_at id k).lists
     one-cleared id k low h = cleared_at-keeps id k low h
 
-    pub cleared-keeps : (k : Standing) → P k.lists → P (cleared k).lists
+    pub cleared-keeps : (k : StoreWithLists) → P k.lists → P (cleared k).lists
     unfolding cleared
     cleared-keeps k h = cleared_all-keeps 5 (highest_id_of k.lists.version - 4) k (omega arith) h
 
@@ -171,11 +171,11 @@ module _ (P : Lists → Type 0) (beside : AllowsBlocks P) where
         on None e = new (with_taken (last_word_of l.version u) l) (new_task l (unwrap_or (free_id l) 0) ms u pri maker) (record { guest = high-guest (unwrap_or (free_id l) 0) (number-range s l ms u pri e).0; dead = refl; queue = refl; fault = refl }) (beside l (with_taken (last_word_of l.version u) l).blocks l.modules h)
         on (Some code) e = h
 
-    pub started-keeps : (d : Disc) (name : List ℕ) (rest : Result (Unit {0}) ℕ) (pri : Priority) (k : Standing) → P k.lists → P (start_program d name rest pri k).left.lists
+    pub started-keeps : (d : Disc) (name : List ℕ) (rest : Result (Unit {0}) ℕ) (pri : Priority) (k : StoreWithLists) → P k.lists → P (start_program d name rest pri k).left.lists
     unfolding start_program
     started-keeps d name rest pri k h = on (load_program d name rest k.lists).answer
       where
-        j : Standing
+        j : StoreWithLists
         j = left_by k.words (load_program d name rest k.lists)
 
         loaded : P j.lists
@@ -195,12 +195,12 @@ module _ (P : Lists → Type 0) (beside : AllowsBlocks P) where
 -- ---- the program
 
 -- one that was started is a guest that is there
-pub started-there : (d : Disc) (name : List ℕ) (rest : Result (Unit {0}) ℕ) (pri : Priority) (k : Standing) (id : ℕ) → (start_program d name rest pri k).answer ≡ Ok id
+pub started-there : (d : Disc) (name : List ℕ) (rest : Result (Unit {0}) ℕ) (pri : Priority) (k : StoreWithLists) (id : ℕ) → (start_program d name rest pri k).answer ≡ Ok id
     → HasProgram k.lists.version id (start_program d name rest pri k).left.lists
 unfolding start_program
 started-there d name rest pri k id is = on (load_program d name rest k.lists).answer is
   where
-    j : Standing
+    j : StoreWithLists
     j = left_by k.words (load_program d name rest k.lists)
 
     version : j.lists.version ≡ k.lists.version

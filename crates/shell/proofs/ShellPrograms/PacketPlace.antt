@@ -16,7 +16,7 @@ use Rattle.kernel_model.specs.KernelRecord.Owned.{owned}
 use Rattle.kernel_model.specs.KernelRecord.Task.{Task}
 use Rattle.kernel_model.specs.KernelRecord.ValidBlocks.{AreData, last_resident_word}
 use Rattle.kernel_model.specs.KernelRecord.ValidLists.{AreValid}
-use Rattle.kernel_model.specs.KernelRecord.ValidQueues.{MayStand}
+use Rattle.kernel_model.specs.KernelRecord.ValidQueues.{IsValidPacket}
 use Rattle.kernel_model.specs.KernelRecord.ValidQueues.Place.{Clock, Keyboard, Output, Pending, Work}
 use Rattle.kernel_model.proofs.KernelRecord.DataInside.{HasBlock-data}
 use Rattle.kernel_model.proofs.KernelRecord.OwnerCounts.{packets_count}

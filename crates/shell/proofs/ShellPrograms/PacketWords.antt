@@ -27,7 +27,7 @@ use Rattle.kernel_lists.specs.PacketQueue.Queue.{no_queue}
 use Rattle.kernel_model.specs.KernelRecord.Task.{Task, is_guest_id, task_address, task_words}
 use Rattle.kernel_model.specs.KernelRecord.ValidBlocks.{HasBlock, last_module_word, last_resident_word}
 use Rattle.kernel_model.specs.KernelRecord.ValidLists.{AreValid}
-use Rattle.kernel_model.specs.KernelRecord.ValidTasks.{CoroutinesStand, IsCoroutine, IsTask, resident_place}
+use Rattle.kernel_model.specs.KernelRecord.ValidTasks.{AreValidCoroutines, IsCoroutine, IsTask, resident_place}
 use Rattle.kernel_model.specs.KernelRecord.Versions.{head_words_of}
 use Rattle.word_store.proofs.Elements.{find-passes}
 use Rattle.kernel_model.proofs.KernelRecord.FollowedBlocks.{IsWithin, found-holding, found-within, starts-low}
@@ -223,7 +223,7 @@ module _ (l : Lists) (v : AreValid l) (residents : l.residents ≡ true) (a : �
             )
       ]
 
-  frames-front : (ts : List Task) → AllByRecursion (CoroutinesStand l) ts → 0 < frames a ts → 0 < frames 201 ts
+  frames-front : (ts : List Task) → AllByRecursion (AreValidCoroutines l) ts → 0 < frames a ts → 0 < frames 201 ts
   frames-front [] all some = absurd (omega (arith, some))
   frames-front (t ∷ ts) all some =
       elim (cases_lt 0 (times a (words_of coroutine_size (coroutine_addresses t)))) [

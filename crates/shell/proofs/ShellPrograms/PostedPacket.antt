@@ -22,10 +22,10 @@ use Rattle.kernel_calls.specs.CallAnswers.Made.{IsMade, minus_one}
 use Rattle.kernel_calls.proofs.CallAnswers.RunningTask.{there-at}
 use Rattle.kernel_calls.specs.PacketCalls.SendOwn.{CanSendOwn, send_own}
 use Rattle.kernel_calls.proofs.TaskCalls.PlainRows.{plain-set}
-use Rattle.kernel_model.specs.KernelRecord.Standing.{standing}
+use Rattle.kernel_model.specs.KernelRecord.StoreWithLists.{store_with_lists}
 use Rattle.shell.specs.ShellPrograms.ShellPacket.{CanPost, post_events, posted, request_words}
-use Rattle.shell.specs.ShellPrograms.Standings.{RepresentsStanding}
-use Rattle.shell.proofs.ShellPrograms.MadeStandings.{made-standing}
+use Rattle.shell.specs.ShellPrograms.StoresWithLists.{RepresentsStoreWithLists}
+use Rattle.shell.proofs.ShellPrograms.StoresAfterCalls.{made-represents}
 use Rattle.shell.proofs.ShellPrograms.PacketPlace.{packet-arguments, packet-five, packet-residents}
 
 -- ---- the number of a task
@@ -61,9 +61,9 @@ module _ (s : List ℕ) (l : Lists) (to : ℕ) (z : ℤ) (tells : List ℕ → T
         plain = r.packet.words;
       })
 
-  pub posted-standing : (t : List ℕ) (told : List ℕ → Type 0) (after : ℕ) → after ≡ room → IsMade s t told (Ok minus_one) (send_own s l 279 1 (word_of z)) → RepresentsStanding t told after (posted to (standing s l))
-  posted-standing t told after same made =
-      made-standing s t told after (Ok minus_one) (send_own s l 279 1 to) (subst (λ n. IsMade s t told (Ok minus_one) (send_own s l 279 1 n)) word-is made) (omega (arith, same, k.enough))
+  pub posted-represents : (t : List ℕ) (told : List ℕ → Type 0) (after : ℕ) → after ≡ room → IsMade s t told (Ok minus_one) (send_own s l 279 1 (word_of z)) → RepresentsStoreWithLists t told after (posted to (store_with_lists s l))
+  posted-represents t told after same made =
+      made-represents s t told after (Ok minus_one) (send_own s l 279 1 to) (subst (λ n. IsMade s t told (Ok minus_one) (send_own s l 279 1 n)) word-is made) (omega (arith, same, k.enough))
 
   pub posted-notes : (before now : Option (List KernelEvent)) (f h : Bool) → NotesAll before now f h (send_own s l 279 1 (word_of z)).events → NotesAll before now f h (post_events to)
   posted-notes before now f h notes = subst (λ n. NotesAll before now f h (post_events n)) word-is notes

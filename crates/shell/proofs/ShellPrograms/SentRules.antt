@@ -7,7 +7,7 @@ use Rattle.kernel_model.specs.KernelRecord.Residents.{keyboard}
 use Rattle.kernel_model.specs.KernelRecord.ValidQueues.Place.{Keyboard, Work}
 use Rattle.kernel_model.specs.KernelRecord.ValidTasks.{runs}
 use Rattle.kernel_calls.specs.PacketCalls.PacketMoves.{arrived, sent_packet, with_arrived}
-use Rattle.kernel_model.specs.KernelRecord.Standing.{Standing}
+use Rattle.kernel_model.specs.KernelRecord.StoreWithLists.{StoreWithLists}
 use Rattle.resident_tasks.specs.ResidentRequests.Requests.{RunsResident}
 use Rattle.resident_tasks.proofs.ResidentRequests.RunningResident.{runs-work}
 use Rattle.kernel_model.specs.declared.kernel_record.numbers.TheConstants.{SHELL_PACKET}
@@ -16,16 +16,16 @@ use Rattle.shell.specs.ShellPrograms.ShellPacket.{posted}
 use Rattle.shell.proofs.ShellPrograms.KeptTasks.{all-changed}
 
 -- the queue that the task has then
-abbrev pub queue-with : ℕ → Standing → List QueuedPacket
+abbrev pub queue-with : ℕ → StoreWithLists → List QueuedPacket
 queue-with to k = arrived (Work to) (sent_packet k.words k.lists (Work to) SHELL_PACKET 1) (queue_of (Work to) k.lists)
 
-pub posted-is : (to : ℕ) (k : Standing) → to ≤ 63 → (posted to k).lists ≡ with_queue (Work to) (queue-with to k) k.lists
+pub posted-is : (to : ℕ) (k : StoreWithLists) → to ≤ 63 → (posted to k).lists ≡ with_queue (Work to) (queue-with to k) k.lists
 posted-is to k low = ap (λ b. cond b (with_key None (with_arrived Keyboard (sent_packet k.words k.lists Keyboard SHELL_PACKET 1) k.lists)) (with_arrived (Work to) (sent_packet k.words k.lists (Work to) SHELL_PACKET 1) k.lists)) (ne_eqb to keyboard (λ e. absurd (omega (arith, low, e))))
 
-pub posted-runs : (to : ℕ) (k : Standing) → to ≤ 63 → RunsResident k.lists → RunsResident (posted to k).lists
+pub posted-runs : (to : ℕ) (k : StoreWithLists) → to ≤ 63 → RunsResident k.lists → RunsResident (posted to k).lists
 posted-runs to k low r = subst RunsResident (sym (posted-is to k low)) (runs-work k.lists to (queue-with to k) r)
 
-pub posted-alone : (to : ℕ) (k : Standing) → to ≤ 63 → ResidentAlone k.lists → ResidentAlone (posted to k).lists
+pub posted-alone : (to : ℕ) (k : StoreWithLists) → to ≤ 63 → ResidentAlone k.lists → ResidentAlone (posted to k).lists
 posted-alone to k low r =
     subst ResidentAlone (sym (posted-is to k low))
     (record {

@@ -7,9 +7,9 @@ use Rattle.kernel_lists.specs.declared.packet_queue.events.KernelEvent.TheVarian
 use Rattle.kernel_model.specs.KernelRecord.Changes.{AreUnowned}
 use Rattle.kernel_model.specs.KernelRecord.Lists.{Lists, has_task}
 use Rattle.kernel_calls.specs.PacketCalls.SendOwn.{send_own}
-use Rattle.kernel_model.specs.KernelRecord.Standing.{Standing, standing}
+use Rattle.kernel_model.specs.KernelRecord.StoreWithLists.{StoreWithLists, store_with_lists}
 use Rattle.kernel_model.specs.declared.kernel_record.numbers.TheConstants.{SHELL, SHELL_PACKET}
-use Rattle.shell.specs.ShellPrograms.Standings.{left_by}
+use Rattle.shell.specs.ShellPrograms.StoresWithLists.{left_by}
 
 -- the shell's packet is on no queue: nobody owns its first five words
 pub record HasPacket (l : Lists) : Type 0 where
@@ -26,7 +26,7 @@ pub record CanPost (l : Lists) (to : ℕ) : Type 0 where
   pub there : has_task to l.tasks ≡ true
 
 -- the shell sends it to a task as it is
-abbrev pub posted : ℕ → Standing → Standing
+abbrev pub posted : ℕ → StoreWithLists → StoreWithLists
 posted to k = left_by k.words (send_own k.words k.lists SHELL_PACKET SHELL to)
 
 -- the event that the shell's packet is sent to a task
@@ -38,5 +38,5 @@ abbrev pub request_words : ℕ → Pairs
 request_words kind = row_from SHELL_PACKET 2 (kind ∷ 0 ∷ 0 ∷ 0 ∷ 0 ∷ 0 ∷ [])
 
 -- the shell sends it to a task as a request of this type
-abbrev pub requested : ℕ → ℕ → Standing → Standing
-requested to kind k = posted to (standing (written (request_words kind) k.words) k.lists)
+abbrev pub requested : ℕ → ℕ → StoreWithLists → StoreWithLists
+requested to kind k = posted to (store_with_lists (written (request_words kind) k.words) k.lists)

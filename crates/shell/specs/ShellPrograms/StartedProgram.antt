@@ -8,12 +8,12 @@ use Rattle.kernel_model.specs.KernelRecord.Versions.{highest_id_of}
 use Rattle.kernel_calls.specs.CallAnswers.Made.{Made, refused}
 use Rattle.kernel_calls.specs.TaskCalls.CreateTask.{create_task, free_id}
 use Rattle.kernel_boot.specs.BegunTask.{with_begun}
-use Rattle.kernel_model.specs.KernelRecord.Standing.{Standing, left_with}
+use Rattle.kernel_model.specs.KernelRecord.StoreWithLists.{StoreWithLists, left_with}
 use Rattle.kernel_boot.specs.BootTasks.{load_text}
 use Rattle.kernel_model.specs.declared.kernel_record.numbers.TheConstants.{SHELL}
 use Rattle.ram_disc.specs.declared.codes.TheConstants.{NO_FILE}
 use Rattle.shell.specs.ShellPrograms.ClearedTasks.{unloaded}
-use Rattle.shell.specs.ShellPrograms.Standings.{RepresentsStanding, left_by}
+use Rattle.shell.specs.ShellPrograms.StoresWithLists.{RepresentsStoreWithLists, left_by}
 use Rattle.shell.specs.declared.shell_programs.programs.Priority.{Priority}
 use Rattle.shell.specs.declared.shell_programs.programs.Priority.TheVariants.{AboveShell, BelowShell, Given}
 
@@ -36,10 +36,10 @@ pub record Started : Type 0 where
   -- the number of its task, or the code of the refusal
   pub answer : Result ℕ ℕ
   -- the store and its lists
-  pub left : Standing
+  pub left : StoreWithLists
 
 -- a start has this answer, and leaves this store with its lists
-abbrev pub started : Result ℕ ℕ → Standing → Started
+abbrev pub started : Result ℕ ℕ → StoreWithLists → Started
 started answer k = record { answer = answer; left = k }
 
 -- ---- its module
@@ -57,34 +57,34 @@ load_program d name rest l = load_found (option_map (λ f. f.bytes) (file_named 
 -- ---- its task
 
 -- where no task can be created the module goes again
-abbrev pub after_creation : Result ℕ ℕ → ℕ → Standing → Started
+abbrev pub after_creation : Result ℕ ℕ → ℕ → StoreWithLists → Started
 after_creation (Ok id) m k = started (Ok id) k
 after_creation (Err code) m k = started (Err code) (unloaded m k)
 
 -- the shell creates a task of the module (9, 8, 10, 18, 1)
-abbrev pub creation : Priority → ℕ → Standing → Made
+abbrev pub creation : Priority → ℕ → StoreWithLists → Made
 creation priority m k = create_task k.words k.lists 0 (m ∷ []) program_stack (priority_of priority k.lists) SHELL
 
 -- A task of a module, which is dead until a packet comes; where none can be created the module goes again.
-abbrev pub create_program : Priority → ℕ → Standing → Started
+abbrev pub create_program : Priority → ℕ → StoreWithLists → Started
 create_program priority m k = after_creation (creation priority m k).answer m (left_by k.words (creation priority m k))
 
 -- ---- both
 
 -- where the module was loaded a task of it is created
-abbrev pub after_loading : Result ℕ ℕ → Priority → Standing → Started
+abbrev pub after_loading : Result ℕ ℕ → Priority → StoreWithLists → Started
 after_loading (Ok m) priority k = create_program priority m k
 after_loading (Err code) priority k = started (Err code) k
 
 -- A program is started from the file of this name; what followed the name on the line is looked at once the file is found.
-unfoldable pub start_program : Disc → List ℕ → Result (Unit {0}) ℕ → Priority → Standing → Started
+unfoldable pub start_program : Disc → List ℕ → Result (Unit {0}) ℕ → Priority → StoreWithLists → Started
 start_program d name rest priority k =
     after_loading (load_program d name rest k.lists).answer priority (left_by k.words (load_program d name rest k.lists))
 
 -- ---- its beginning
 
 -- the task begins at its function once it is its turn, without a packet
-abbrev pub begun : ℕ → Standing → Standing
+abbrev pub begun : ℕ → StoreWithLists → StoreWithLists
 begun id k = left_with k.words (with_begun k.words id k.lists) []
 
 -- The function has answered so, and the store is as is said.
@@ -92,4 +92,4 @@ pub record IsStarted (s : List ℕ) (tells : List ℕ → Type 0) (room : ℕ) (
   -- this is the answer
   pub answered : answer ≡ x.answer
   -- the store is as it is left
-  pub stands : RepresentsStanding s tells room x.left
+  pub represents : RepresentsStoreWithLists s tells room x.left

@@ -1,9 +1,9 @@
 // The shell clears up.
 ghost use Rattle.std.specs.Prelude.{◌≡◌, ◌≤◌};
 ghost use Rattle.kernel_model.specs.KernelRecord.Lists.{Lists};
-ghost use Rattle.kernel_model.specs.KernelRecord.Standing.{standing};
+ghost use Rattle.kernel_model.specs.KernelRecord.StoreWithLists.{store_with_lists};
 ghost use Rattle.shell.specs.ShellPrograms.ClearedTasks.{cleared, cleared_at};
-ghost use Rattle.shell.specs.ShellPrograms.Standings.{RepresentsStanding};
+ghost use Rattle.shell.specs.ShellPrograms.StoresWithLists.{RepresentsStoreWithLists};
 ghost use Rattle.kernel_model.specs.KernelRecord.Running.{RunsAlive};
 ghost use Rattle.kernel_model.specs.KernelRecord.ChangedStore.{HasKeeper};
 
@@ -20,8 +20,8 @@ pub fn clear_up<Q: KindKeeper>(store: &mut Store, kinds: &mut Q)
         × HasKeeper store.old (Q.tells kinds.old) (Q.room kinds.old) l × RunsAlive l }
     ensures cleared { (l : Lists)
         → HasKeeper store.old (Q.tells kinds.old) (Q.room kinds.old) l → RunsAlive l
-        → RepresentsStanding store.new (Q.tells kinds.new) (Q.room kinds.new)
-        (cleared (standing store.old l)) }
+        → RepresentsStoreWithLists store.new (Q.tells kinds.new) (Q.room kinds.new)
+        (cleared (store_with_lists store.old l)) }
     ensures room { Q.room kinds.new ≡ Q.room kinds.old }
 {
     for id in FIRST_GUEST..highest_id(store) + 1 {
@@ -36,8 +36,8 @@ fn clear_task<Q: KindKeeper>(store: &mut Store, kinds: &mut Q, id: u32)
         × HasKeeper store.old (Q.tells kinds.old) (Q.room kinds.old) l × RunsAlive l }
     ensures cleared { (l : Lists)
         → HasKeeper store.old (Q.tells kinds.old) (Q.room kinds.old) l → RunsAlive l
-        → RepresentsStanding store.new (Q.tells kinds.new) (Q.room kinds.new)
-        (cleared_at id (standing store.old l)) }
+        → RepresentsStoreWithLists store.new (Q.tells kinds.new) (Q.room kinds.new)
+        (cleared_at id (store_with_lists store.old l)) }
     ensures room { Q.room kinds.new ≡ Q.room kinds.old }
 {
     let Ok(task) = guest(store, id) else {

@@ -2,9 +2,9 @@
 ghost use Rattle.std.specs.Prelude.{◌≡◌};
 ghost use Rattle.kernel_model.specs.KernelRecord.Lists.{Lists};
 ghost use Rattle.kernel_lists.specs.OwnedWords.Owned.{written};
-ghost use Rattle.kernel_model.specs.KernelRecord.Standing.{standing};
+ghost use Rattle.kernel_model.specs.KernelRecord.StoreWithLists.{store_with_lists};
 ghost use Rattle.shell.specs.ShellPrograms.ShellPacket.{CanPost, post_events, posted, request_words, requested};
-ghost use Rattle.shell.specs.ShellPrograms.Standings.{RepresentsStanding};
+ghost use Rattle.shell.specs.ShellPrograms.StoresWithLists.{RepresentsStoreWithLists};
 ghost use Rattle.kernel_model.specs.KernelRecord.LoggedEvents.{LogsAll};
 ghost use Rattle.kernel_model.specs.KernelRecord.ChangedStore.{HasKeeper};
 
@@ -26,8 +26,8 @@ pub fn send_shell_packet<Q: KindKeeper, L: EventLog>(
     requires { (l : Lists) × HasKeeper store.old (Q.tells kinds.old) (Q.room kinds.old) l
         × CanPost l to }
     ensures sent { (l : Lists) → HasKeeper store.old (Q.tells kinds.old) (Q.room kinds.old) l
-        → CanPost l to → RepresentsStanding store.new (Q.tells kinds.new) (Q.room kinds.new)
-        (requested to kind (standing store.old l)) }
+        → CanPost l to → RepresentsStoreWithLists store.new (Q.tells kinds.new) (Q.room kinds.new)
+        (requested to kind (store_with_lists store.old l)) }
     ensures notes { (l : Lists) → HasKeeper store.old (Q.tells kinds.old) (Q.room kinds.old) l
         → CanPost l to → LogsAll L.EventLog log.old log.new (post_events to) }
     ensures room { Q.room kinds.new ≡ Q.room kinds.old }
@@ -59,8 +59,8 @@ pub fn post_shell_packet<Q: KindKeeper, L: EventLog>(
     requires { (l : Lists) × HasKeeper store.old (Q.tells kinds.old) (Q.room kinds.old) l
         × CanPost l to }
     ensures sent { (l : Lists) → HasKeeper store.old (Q.tells kinds.old) (Q.room kinds.old) l
-        → CanPost l to → RepresentsStanding store.new (Q.tells kinds.new) (Q.room kinds.new)
-        (posted to (standing store.old l)) }
+        → CanPost l to → RepresentsStoreWithLists store.new (Q.tells kinds.new) (Q.room kinds.new)
+        (posted to (store_with_lists store.old l)) }
     ensures notes { (l : Lists) → HasKeeper store.old (Q.tells kinds.old) (Q.room kinds.old) l
         → CanPost l to → LogsAll L.EventLog log.old log.new (post_events to) }
     ensures room { Q.room kinds.new ≡ Q.room kinds.old }

@@ -3,7 +3,7 @@ ghost use Rattle.std.specs.Prelude.{◌≡◌};
 ghost use Rattle.kernel_model.specs.KernelRecord.HoldsLists.{HoldsLists};
 ghost use Rattle.kernel_model.specs.KernelRecord.Lists.{Lists};
 ghost use Rattle.kernel_calls.specs.CallAnswers.Made.{IsMade};
-ghost use Rattle.kernel_model.specs.KernelRecord.Standing.{standing};
+ghost use Rattle.kernel_model.specs.KernelRecord.StoreWithLists.{store_with_lists};
 ghost use Rattle.shell.specs.ShellPrograms.StartedProgram.{IsStarted, create_program, load_program, next_number, priority_of, start_program};
 ghost use Rattle.kernel_model.specs.KernelRecord.ChangedStore.{HasKeeper};
 
@@ -51,7 +51,7 @@ pub fn start_program<Q: KindKeeper>(
     ensures started { (l : Lists)
         → HasKeeper store.old (Q.tells kinds.old) (Q.room kinds.old) l
         → IsStarted store.new (Q.tells kinds.new) (Q.room kinds.new) result
-        (start_program disc.now program.now rest priority (standing store.old l)) }
+        (start_program disc.now program.now rest priority (store_with_lists store.old l)) }
     ensures room { Q.room kinds.new ≡ Q.room kinds.old }
 {
     let module = load_program(store, kinds, disc, program, rest)?;
@@ -92,7 +92,7 @@ fn create_program<Q: KindKeeper>(
     ensures started { (l : Lists)
         → HasKeeper store.old (Q.tells kinds.old) (Q.room kinds.old) l
         → IsStarted store.new (Q.tells kinds.new) (Q.room kinds.new) result
-        (create_program priority «module» (standing store.old l)) }
+        (create_program priority «module» (store_with_lists store.old l)) }
     ensures room { Q.room kinds.new ≡ Q.room kinds.old }
 {
     let pri = priority_of(store, priority);

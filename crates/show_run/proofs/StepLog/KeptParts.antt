@@ -17,9 +17,9 @@ use Rattle.show_run.specs.StepLog.Answers.{answer_at, answer_of_task, answer_sav
 use Rattle.show_run.specs.StepLog.Faults.{record_at, record_of_task, recorded}
 
 -- what holds of each kernel for which the parts stand, holds of the machine
-pub on-stands : (p : Parts) (s : State) (P : State → Type 0) → RepresentsFullState p s → ((k : Kernel) → RepresentsKernel p k → P (Full k)) → P s
-on-stands p (Bare m) P x each = absurd x
-on-stands p (Full k) P x each = each k x
+pub on-represented : (p : Parts) (s : State) (P : State → Type 0) → RepresentsFullState p s → ((k : Kernel) → RepresentsKernel p k → P (Full k)) → P s
+on-represented p (Bare m) P x each = absurd x
+on-represented p (Full k) P x each = each k x
 
 -- ---- what the block of a task says
 

@@ -30,7 +30,7 @@ use Rattle.kernel_model.proofs.KernelRecord.EachMember.{holds-each}
 use Rattle.kernel_model.proofs.KernelRecord.OwnedParts.{HoldsParts, chain_part, holds-parts, root_part, table_part}
 use Rattle.kernel_model.proofs.KernelRecord.ReadCoroutines.{HoldsTask, holds-task}
 use Rattle.kernel_model.proofs.KernelRecord.WalkedLists.{can-walk}
-use Rattle.store_claims.specs.AdoptionLaw.Passes.{HeadStands, Passes}
+use Rattle.store_claims.specs.AdoptionLaw.Passes.{HoldsTaskWords, Passes}
 use Rattle.store_claims.specs.ListClaims.ListEnds.{TaskListsEnd}
 use Rattle.store_claims.proofs.AdoptionLaw.HeldChains.{chain-held, range-row, IsRow}
 
@@ -56,7 +56,7 @@ module _ (s : List ℕ) (h : HoldsLists s (lists_in s)) where
   all-ends [] all = tt
   all-ends (t ∷ ts) all = (ends-of t all.0, all-ends ts all.1)
 
-  head-of : (t : Task) (n : ℕ) → Holds s (task_words l.version t n) → HeadStands s l t
+  head-of : (t : Task) (n : ℕ) → Holds s (task_words l.version t n) → HoldsTaskWords s l t
   head-of t n own = (let w : HoldsTask s l.version t = holds-task s l.version t n own in record { state = w.state; fault = w.fault; coroutines = w.coroutines })
 
   pub passes : Passes s
@@ -85,7 +85,7 @@ module _ (s : List ℕ) (h : HoldsLists s (lists_in s)) where
     table = parts.table;
     running = running-at;
     coroutines = h.valid.coroutines;
-    heads = holds-each task_address (task_words l.version) s (HeadStands s l) head-of l.tasks 0 parts.chain.1;
+    heads = holds-each task_address (task_words l.version) s (HoldsTaskWords s l) head-of l.tasks 0 parts.chain.1;
     resident_block = h.valid.numbers.residents;
     queues = h.valid.queues;
     resident_words = parts.residents;
@@ -155,7 +155,7 @@ module _ (s : List ℕ) (p : Passes s) where
       (module-holds (modules_in s) p.ends.lengths))
 
   -- a task's words but for its link
-  task-holds : (a : ℕ) → TaskListsEnd s a → HeadStands s m (task_in s a) → Holds s (task_others m.version (task_in s a))
+  task-holds : (a : ℕ) → TaskListsEnd s a → HoldsTaskWords s m (task_in s a) → Holds s (task_others m.version (task_in s a))
   task-holds a e h =
       let t : Task = task_in s a in
       let queue : Pairs = queue_words (queue_head t.address) t.queue in
@@ -165,7 +165,7 @@ module _ (s : List ℕ) (p : Passes s) where
       (Holds-append s (fault_words m.version t) (queue ++ frames) h.fault
       (Holds-append s queue frames (queue-holds (queue_head a) e.queue) h.coroutines)))
 
-  tasks-hold : (vs : List ℕ) → AllByRecursion (TaskListsEnd s) vs → AllByRecursion (HeadStands s m) (map (task_in s) vs) → AllByRecursion (λ t. Holds s (task_others m.version t)) (map (task_in s) vs)
+  tasks-hold : (vs : List ℕ) → AllByRecursion (TaskListsEnd s) vs → AllByRecursion (HoldsTaskWords s m) (map (task_in s) vs) → AllByRecursion (λ t. Holds s (task_others m.version t)) (map (task_in s) vs)
   tasks-hold [] ends heads = tt
   tasks-hold (a ∷ vs) ends heads = (task-holds a ends.0 heads.0, tasks-hold vs ends.1 heads.1)
 
@@ -174,7 +174,7 @@ module _ (s : List ℕ) (p : Passes s) where
       subst (λ ts. Holds s (headed_words task_address (task_words m.version) 101 ts 0)) (sym the-tasks)
       (chain-held task_address (task_others m.version) s 101 (map (task_in s) (tasks_in s))
       (subst (IsChain s (λ a. a) 101) (sym (map-address (task_in s) task_address (λ a. refl) (tasks_in s))) p.ends.chain)
-      (tasks-hold (tasks_in s) p.ends.tasks (subst (AllByRecursion (HeadStands s m)) the-tasks p.heads)))
+      (tasks-hold (tasks_in s) p.ends.tasks (subst (AllByRecursion (HoldsTaskWords s m)) the-tasks p.heads)))
 
   blocks-hold : (at : ℕ) (bs : List Block) → Tiles s at bs → Holds s (blocks_words bs)
   blocks-hold at [] t = tt

@@ -15,7 +15,7 @@ use Rattle.kernel_model.specs.KernelRecord.Recovered.{lists_in}
 use Rattle.kernel_model.specs.KernelRecord.ValidKernel.{IsValid}
 use Rattle.kernel_model.proofs.KernelRecord.RecoveredLists.{lists-back}
 use Rattle.store_claims.specs.AdoptionLaw.OtherParts.{OtherParts}
-use Rattle.store_claims.specs.AdoptionLaw.Adoption.{HasKernel, IsAdopted, OthersStand, StoreRepresentsKernel, kernel_in}
+use Rattle.store_claims.specs.AdoptionLaw.Adoption.{HasKernel, IsAdopted, OthersFit, StoreRepresentsKernel, kernel_in}
 use Rattle.kernel_model.proofs.KernelRecord.SettledWords.{word_in-some}
 
 -- ---- the plain words of a store beside some lists
@@ -67,7 +67,7 @@ module _ (s : List ℕ) (o : OtherParts) where
   pub adopted : IsAdopted s o → HasKernel s o
   unfolding kernel_in
   adopted h =
-      let c : OthersStand o (kernel_in s o) = h.others in (
+      let c : OthersFit o (kernel_in s o) = h.others in (
         kernel_in s o,
         record {
           lists = h.lists.valid;
@@ -134,7 +134,7 @@ module _ (s : List ℕ) (o : OtherParts) (k : Kernel) (v : IsValid k) (st : Stor
   is-adopted : IsAdopted s o
   is-adopted = record {
     lists = subst (HoldsLists s) lists-one (record { valid = v.lists; size = st.image.size; holds = st.image.holds });
-    others = subst (OthersStand o) one-kernel-in (record {
+    others = subst (OthersFit o) one-kernel-in (record {
       version = st.version;
       period = st.period;
       ticks = v.ticks st.goes;

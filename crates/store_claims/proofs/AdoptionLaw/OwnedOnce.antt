@@ -18,7 +18,7 @@ use Rattle.kernel_model.proofs.KernelRecord.BlockStarts.{Tiles-Follow, starts-on
 use Rattle.kernel_model.proofs.KernelRecord.DataLaw.{owned-where}
 use Rattle.kernel_model.proofs.KernelRecord.RootCounts.{owners-nodes}
 use Rattle.store_claims.specs.ListClaims.BlockData.{is_used_data}
-use Rattle.store_claims.specs.AdoptionLaw.Passes.{RootStands}
+use Rattle.store_claims.specs.AdoptionLaw.Passes.{IsValidRoot}
 use Rattle.store_claims.specs.AdoptionLaw.ClaimCounts.{AreUsed, claim_count}
 use Rattle.store_claims.proofs.AdoptionLaw.BlockData.{LiesInData, held-used, lies-in-data}
 
@@ -38,7 +38,7 @@ module _ (s : List ℕ) where
   tiles-inside at [] t = omega (arith, t.0)
   tiles-inside at (b ∷ bs) t = omega (arith, t.0, t.1.some, tiles-inside (block_end b) bs t.2)
 
-  pub owned-once : RootStands s → IsTiled s → ((a : ℕ) → claim_count a l ≤ 1) → AreUsed s → OwnsApart l
+  pub owned-once : IsValidRoot s → IsTiled s → ((a : ℕ) → claim_count a l ≤ 1) → AreUsed s → OwnsApart l
   owned-once root tiled once used = record { apart = apart; inside = inside }
     where
       end : ℕ

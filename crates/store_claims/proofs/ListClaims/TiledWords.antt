@@ -30,7 +30,7 @@ pub tiled-before : (s : List ℕ) (at : ℕ) (b : Block) → at + 2 ≢ length s
 tiled-before s at b before read = (there, back)
   where
     there : IsTiledFrom s at → (2 ≤ b.size) × (block_end b + 2 ≤ length s) × IsTiledFrom s (block_end b)
-    there t = (let n : NextBlock s at b = IsTiledFrom-next s at b t before read in (n.stands.some, n.inside, n.tiled))
+    there t = (let n : NextBlock s at b = IsTiledFrom-next s at b t before read in (n.valid.some, n.inside, n.tiled))
 
     back : (2 ≤ b.size) × (block_end b + 2 ≤ length s) × IsTiledFrom s (block_end b) → IsTiledFrom s at
     back h =

@@ -1,6 +1,6 @@
 -- The valid kernel that a store and the other parts of a machine represent.
 use Rattle.std.specs.Prelude.{◌≡◌, ◌/◌, ℕ, None, List}
-use Rattle.kernel_model.specs.KernelRecord.Between.{FirstRuns, RegistersStand, ResidentsStand}
+use Rattle.kernel_model.specs.KernelRecord.Between.{AreValidRegisters, AreValidResidents, FirstRuns}
 use Rattle.kernel_model.specs.KernelRecord.HoldsLists.{HoldsLists}
 use Rattle.kernel_model.specs.KernelRecord.Image.{IsImage, plain_words}
 use Rattle.kernel_model.specs.KernelRecord.Kernel.{Kernel}
@@ -58,7 +58,7 @@ kernel_in s o = record {
 }
 
 -- The other parts fit the lists of this kernel: the rules between steps hold of it.
-pub record OthersStand (o : OtherParts) (k : Kernel) : Type 0 where
+pub record OthersFit (o : OtherParts) (k : Kernel) : Type 0 where
   -- the version is the one that the store tells
   pub version : k.lists.version ≡ o.version
   -- and so is the period
@@ -68,9 +68,9 @@ pub record OthersStand (o : OtherParts) (k : Kernel) : Type 0 where
   -- the first ready task runs
   pub running : FirstRuns k.lists
   -- the registers
-  pub registers : RegistersStand k.lists k.regs
+  pub registers : AreValidRegisters k.lists k.regs
   -- what residents keep
-  pub residents : ResidentsStand k
+  pub residents : AreValidResidents k
   -- the steps, and those of keys
   pub steps : HasSteps k
 
@@ -80,4 +80,4 @@ pub record IsAdopted (s : List ℕ) (o : OtherParts) : Type 0 where
   -- the lists
   pub lists : HoldsLists s (lists_in s)
   -- the other parts
-  pub others : OthersStand o (kernel_in s o)
+  pub others : OthersFit o (kernel_in s o)

@@ -20,16 +20,16 @@ use Rattle.kernel_model.specs.KernelRecord.Recovered.{lists_in}
 use Rattle.kernel_model.specs.KernelRecord.Residents.{pending_head, resident_words}
 use Rattle.kernel_model.specs.KernelRecord.Root.{root_words}
 use Rattle.kernel_model.specs.KernelRecord.Task.{Task, fault_words, state_words, task_address, task_id}
-use Rattle.kernel_model.specs.KernelRecord.ValidBlocks.{HasBlock, ModulesStand, last_resident_word}
-use Rattle.kernel_model.specs.KernelRecord.ValidQueues.{QueuesStand}
-use Rattle.kernel_model.specs.KernelRecord.ValidTasks.{CoroutinesStand, TasksStand}
+use Rattle.kernel_model.specs.KernelRecord.ValidBlocks.{AreValidModules, HasBlock, last_resident_word}
+use Rattle.kernel_model.specs.KernelRecord.ValidQueues.{AreValidQueues}
+use Rattle.kernel_model.specs.KernelRecord.ValidTasks.{AreValidCoroutines, AreValidTasks}
 use Rattle.kernel_model.specs.KernelRecord.Versions.{highest_id_of}
 use Rattle.store_claims.specs.ListClaims.ListEnds.{TaskListsEnd}
 
 -- ---- the root, with its numbers and its fixed words, whoever runs
 
 -- The numbers of the root, and its words that hold the same in every kernel with these numbers.
-pub record RootStands (s : List ℕ) : Type 0 where
+pub record IsValidRoot (s : List ℕ) : Type 0 where
   -- the store has as many words as word 109 says
   pub size : length s ≡ (lists_in s).size
   -- the version is 1 or 2
@@ -66,7 +66,7 @@ pub record ListsEnd (s : List ℕ) : Type 0 where
 
 -- The words that follow from what is read off, but need not be so in every store: the bit of the queue, the addresses of stack
 -- and globals, the zeros after the modules, and the fixed words of coroutines.
-pub record HeadStands (s : List ℕ) (l : Lists) (t : Task) : Type 0 where
+pub record HoldsTaskWords (s : List ℕ) (l : Lists) (t : Task) : Type 0 where
   -- the words 4 to 16 of the task block
   pub state : Holds s (state_words l.version t)
   -- those from 21 on
@@ -79,7 +79,7 @@ pub record HeadStands (s : List ℕ) (l : Lists) (t : Task) : Type 0 where
 -- What all passes find, in their order.
 pub record Passes (s : List ℕ) : Type 0 where
   -- the root
-  pub root : RootStands s
+  pub root : IsValidRoot s
   -- blocks follow one another up to the end word
   pub tiled : IsTiled s
   -- all lists end
@@ -87,20 +87,20 @@ pub record Passes (s : List ℕ) : Type 0 where
   -- and no word is owned twice
   pub owns : OwnsApart (lists_in s)
   -- each module has its block
-  pub modules : ModulesStand (lists_in s)
+  pub modules : AreValidModules (lists_in s)
   -- the tasks
-  pub tasks : TasksStand (lists_in s)
+  pub tasks : AreValidTasks (lists_in s)
   -- the task table leads to each of them, and to nothing else
   pub table : Holds s (entries (address_with task_address task_id (lists_in s).tasks) 1 (highest_id_of (lists_in s).version))
   -- the word of the running task is 0, or the address of a task of the chain
   pub running : slice_index s (root_address Running) ≡ address_of_task (lists_in s) (lists_in s).running
   -- the coroutines of each task
-  pub coroutines : AllByRecursion (CoroutinesStand (lists_in s)) (lists_in s).tasks
+  pub coroutines : AllByRecursion (AreValidCoroutines (lists_in s)) (lists_in s).tasks
   -- the words of each task
-  pub heads : AllByRecursion (HeadStands s (lists_in s)) (lists_in s).tasks
+  pub heads : AllByRecursion (HoldsTaskWords s (lists_in s)) (lists_in s).tasks
   -- the residents have their block
   pub resident_block : (lists_in s).residents ≡ true → HasBlock (lists_in s).blocks 201 (last_resident_word (lists_in s))
   -- the queued packets
-  pub queues : QueuesStand (lists_in s)
+  pub queues : AreValidQueues (lists_in s)
   -- the words of residents that are no task's
   pub resident_words : Holds s (resident_words (lists_in s))

@@ -11,13 +11,13 @@ ghost use Rattle.store_claims.specs.ListClaims.ListEnds.{AllEnd};
 ghost use Rattle.store_claims.specs.ListClaims.ListWords.{Can, all_words};
 ghost use Rattle.store_claims.specs.AdoptionLaw.ClaimableStore.{AreClaimable, OpensData};
 ghost use Rattle.store_claims.specs.AdoptionLaw.ClaimCounts.{AreUsed, claim_count};
-ghost use Rattle.store_claims.specs.AdoptionLaw.Passes.{RootStands};
+ghost use Rattle.store_claims.specs.AdoptionLaw.Passes.{IsValidRoot};
 
 /// Where root and blocks stand, and each word that a list has is claimed once, among the data of used blocks, no word is owned
 /// twice, and each is one of the store. Where the store holds the words of valid lists, what is claimed are such data. And words
 /// of a range, all of them such data, are data of one block.
 pub fn claimed_law()
-    ensures owns { (s : List ℕ) → RootStands s → IsTiled s
+    ensures owns { (s : List ℕ) → IsValidRoot s → IsTiled s
         → ((a : ℕ) → claim_count a (lists_in s) ≤ 1) → AreUsed s
         → OwnsApart (lists_in s) }
     ensures once { (s : List ℕ) (a : ℕ) → HoldsLists s (lists_in s)
@@ -35,6 +35,6 @@ pub fn counted_law()
     ensures claimable { (s : List ℕ) (m : List Bool) → IsTiled s → OpensData s m
         → Can (AllEnd s) m (all_words s) ↔ AreClaimable s }
     ensures valid { (s : List ℕ) → HoldsLists s (lists_in s) → AreClaimable s }
-    ensures owns { (s : List ℕ) → RootStands s → IsTiled s → AreClaimable s
+    ensures owns { (s : List ℕ) → IsValidRoot s → IsTiled s → AreClaimable s
         → OwnsApart (lists_in s) }
 {}

@@ -8,7 +8,7 @@ use Rattle.word_store.proofs.Elements.{all-back}
 use Rattle.kernel_lists.proofs.LinkedList.Places.{IsPlace, place}
 use Rattle.kernel_lists.specs.declared.packet_queue.events.KernelEvent.{KernelEvent}
 use Rattle.tripos_machine.specs.EventHistory.Acceptances.{pair_of}
-use Rattle.tripos_machine.specs.EventHistory.Ledger.{Entry, arrived, clock, same_queue, stands_in}
+use Rattle.tripos_machine.specs.EventHistory.Ledger.{Entry, arrived, clock, is_on_queue, same_queue}
 use Rattle.tripos_machine.proofs.EventHistory.Ends.{end_in}
 use Rattle.tripos_machine.proofs.EventHistory.Kept.{counts, kept, kept-append}
 
@@ -50,12 +50,12 @@ module _ (t : Bool) (h : Entry → Bool) (x : Entry) (es : List KernelEvent) whe
       (between r.front r.back (before r.back (none r.back r.behind (λ P all. all-back P r.front r.back (subst (AllByRecursion P) r.whole all))))))
 
 -- on any other queue it comes last
-pub comes-last : (t : Bool) (h : Entry → Bool) (q : ℤ) → same_queue q clock ≡ false → (x : Entry) (es : List KernelEvent) (ys : List Entry) → stands_in x.packet ys ≡ false
+pub comes-last : (t : Bool) (h : Entry → Bool) (q : ℤ) → same_queue q clock ≡ false → (x : Entry) (es : List KernelEvent) (ys : List Entry) → is_on_queue x.packet ys ≡ false
     → kept t h es (arrived q x ys) ≡ kept t h es ys ++ kept t h es (x ∷ [])
 comes-last t h q other x es ys new = subst (λ b. Last t h x es (cond b (insert_after (λ e. leb e.due x.due) x ys) (ys ++ x ∷ [])) ys) (sym other) (at-end t h x es ys)
 
 -- at the clock it comes last among those that are due at one tick
-pub comes-due : (t : Bool) (tick : ℕ) (x : Entry) (es : List KernelEvent) (ys : List Entry) → stands_in x.packet ys ≡ false
+pub comes-due : (t : Bool) (tick : ℕ) (x : Entry) (es : List KernelEvent) (ys : List Entry) → is_on_queue x.packet ys ≡ false
     → kept t (λ e. eqb e.due tick) es (arrived clock x ys) ≡ kept t (λ e. eqb e.due tick) es ys ++ kept t (λ e. eqb e.due tick) es (x ∷ [])
 comes-due t tick x es ys new = inserted t (λ e. eqb e.due tick) x es ys (λ zs behind inside is. later zs behind is)
   where
@@ -69,15 +69,15 @@ comes-due t tick x es ys new = inserted t (λ e. eqb e.due tick) x es ys (λ zs 
         on false g behind more = (ne_eqb z.due tick (λ e. absurd (omega (arith, leb-false z.due x.due g, eqb-true x.due tick is, e))), more behind)
 
 -- and on every queue it comes last among those with its address
-pub comes-again : (t : Bool) (p : ℕ) (q : ℤ) (x : Entry) (es : List KernelEvent) (ys : List Entry) → stands_in x.packet ys ≡ false
+pub comes-again : (t : Bool) (p : ℕ) (q : ℤ) (x : Entry) (es : List KernelEvent) (ys : List Entry) → is_on_queue x.packet ys ≡ false
     → kept t (λ e. eqb p e.packet) es (arrived q x ys) ≡ kept t (λ e. eqb p e.packet) es ys ++ kept t (λ e. eqb p e.packet) es (x ∷ [])
 comes-again t p q x es ys new = on (same_queue q clock)
   where
-    absent : (zs : List Entry) → stands_in x.packet zs ≡ false → AllByRecursion (λ z. eqb x.packet z.packet ≡ false) zs
+    absent : (zs : List Entry) → is_on_queue x.packet zs ≡ false → AllByRecursion (λ z. eqb x.packet z.packet ≡ false) zs
     absent [] none = tt
     absent (z ∷ zs) none = by (eqb x.packet z.packet) refl none (absent zs)
       where
-        by : (b : Bool) → eqb x.packet z.packet ≡ b → (b || stands_in x.packet zs) ≡ false → (stands_in x.packet zs ≡ false → AllByRecursion (λ z. eqb x.packet z.packet ≡ false) zs)
+        by : (b : Bool) → eqb x.packet z.packet ≡ b → (b || is_on_queue x.packet zs) ≡ false → (is_on_queue x.packet zs ≡ false → AllByRecursion (λ z. eqb x.packet z.packet ≡ false) zs)
             → AllByRecursion (λ z. eqb x.packet z.packet ≡ false) (z ∷ zs)
         by true e none more = cc
         by false e none more = (e, more none)

@@ -7,10 +7,10 @@ use Rattle.kernel_lists.specs.LinkedList.Places.{insert_after, without_first}
 use Rattle.kernel_lists.specs.declared.packet_queue.events.KernelEvent.{KernelEvent}
 use Rattle.kernel_lists.specs.declared.packet_queue.events.KernelEvent.TheVariants.{Accepted, Taken, Dequeued, Runs}
 use Rattle.tripos_machine.specs.EventHistory.Acceptances.{Acceptance, accepted_by, accepted_in, accepted_on, at_start, has_later_events, from_end, is_end, leaves}
-use Rattle.tripos_machine.specs.EventHistory.Ledger.{AreOnce, Entry, Follows, IsFirst, Ledger, May, Timed, after_event, arrived, clock, count_of, entry_on, events_of, same_queue, stands_in}
+use Rattle.tripos_machine.specs.EventHistory.Ledger.{AreOnce, Entry, Follows, IsFirst, Ledger, May, Timed, after_event, arrived, clock, count_of, entry_on, events_of, is_on_queue, same_queue}
 use Rattle.tripos_machine.proofs.EventHistory.Ends.{EndsOf, dequeue-ends, take-ends}
-use Rattle.tripos_machine.proofs.EventHistory.Following.{elsewhere, first-stands, once-after}
-use Rattle.tripos_machine.proofs.EventHistory.Packets.{none-counted, none-stands, some-counted}
+use Rattle.tripos_machine.proofs.EventHistory.Following.{elsewhere, first-on-queue, once-after}
+use Rattle.tripos_machine.proofs.EventHistory.Packets.{none-counted, none-on-queue, some-counted}
 use Rattle.tripos_machine.proofs.EventHistory.Queues.{not-same, queue-ways, same-self}
 
 short-end : (p : ℕ) (es : List KernelEvent) → length (from_end p es) ≤ length es
@@ -95,15 +95,15 @@ module _ (n : ℕ) where
       )
 
   -- a packet that leaves a queue stood there once
-  leaves-once : (b : Ledger) (q r : ℤ) (p : ℕ) → AreOnce b → stands_in p (b r) ≡ true → count_of p (b q) ≡ one_if (same_queue r q)
+  leaves-once : (b : Ledger) (q r : ℤ) (p : ℕ) → AreOnce b → is_on_queue p (b r) ≡ true → count_of p (b q) ≡ one_if (same_queue r q)
   leaves-once b q r p once here =
       queue-ways (λ c. count_of p (b q) ≡ one_if c) r q
-      (λ is. omega (arith, once.once q p, some-counted p (b q) (subst (λ z. stands_in p (b z) ≡ true) is here)))
+      (λ is. omega (arith, once.once q p, some-counted p (b q) (subst (λ z. is_on_queue p (b z) ≡ true) is here)))
       (λ other. none-counted p (b q) (elsewhere b once p r q here (not-same r q other)))
 
   now-leaves : (e : KernelEvent) (es : List KernelEvent) (b : Ledger) (q : ℤ) → AreOnce b → May e b → length es ≡ n → starting (e ∷ es) (b q) ≡ one_if (leaves q e)
   now-leaves (Accepted r p s) es b q once may is = now-none (Accepted r p s) es (b q) (λ z. refl) is
-  now-leaves (Taken r p s) es b q once may is = now-of p (Taken r p s) es (b q) (take-ends r p s) is ∙ leaves-once b q r p once (first-stands p s (b r) may)
+  now-leaves (Taken r p s) es b q once may is = now-of p (Taken r p s) es (b q) (take-ends r p s) is ∙ leaves-once b q r p once (first-on-queue p s (b r) may)
   now-leaves (Dequeued r p) es b q once may is = now-of p (Dequeued r p) es (b q) (dequeue-ends r p) is ∙ leaves-once b q r p once may
   now-leaves (Runs t) es b q once may is = now-none (Runs t) es (b q) (λ z. refl) is
 
@@ -120,11 +120,11 @@ module _ (n : ℕ) where
     this-now : (y : Entry) → eqb p y.packet ≡ true → has_later_events n (at_start (e ∷ es) y) ≡ false
     this-now y is = ap (λ c. eqb (length (cond c (e ∷ es) (from_end y.packet es))) (suc n)) (of.end y.packet ∙ is) ∙ ne_eqb (suc (length es)) (suc n) (λ k. absurd (omega (arith, k, far)))
 
-    later-other : (ys : List Entry) → stands_in p ys ≡ false → starting (e ∷ es) ys ≡ starting es ys
+    later-other : (ys : List Entry) → is_on_queue p ys ≡ false → starting (e ∷ es) ys ≡ starting es ys
     later-other [] none = refl
     later-other (y ∷ ys) none = on (eqb p y.packet) refl none (later-other ys)
       where
-        on : (b : Bool) → eqb p y.packet ≡ b → (b || stands_in p ys) ≡ false → (stands_in p ys ≡ false → starting (e ∷ es) ys ≡ starting es ys) → starting (e ∷ es) (y ∷ ys) ≡ starting es (y ∷ ys)
+        on : (b : Bool) → eqb p y.packet ≡ b → (b || is_on_queue p ys) ≡ false → (is_on_queue p ys ≡ false → starting (e ∷ es) ys ≡ starting es ys) → starting (e ∷ es) (y ∷ ys) ≡ starting es (y ∷ ys)
         on true is none more = cc
         on false is none more = λ i. one_if (other-later y is i) + more none i
 
@@ -134,13 +134,13 @@ module _ (n : ℕ) where
       where
         on : (b : Bool) → eqb p y.packet ≡ b → cond b 1 0 + count_of p ys ≤ 1 → (count_of p ys ≤ 1 → starting (e ∷ es) ys ≡ starting es (without_first (λ y. eqb p y.packet) ys))
             → starting (e ∷ es) (y ∷ ys) ≡ starting es (cond b ys (y ∷ without_first (λ y. eqb p y.packet) ys))
-        on true is once more = omega (arith, ap one_if (this-now y is), later-other ys (none-stands p ys (omega (arith, once))))
+        on true is once more = omega (arith, ap one_if (this-now y is), later-other ys (none-on-queue p ys (omega (arith, once))))
         on false is once more = λ i. one_if (other-later y is i) + more (omega (arith, once)) i
 
     later-rest : (s : ℤ) (ys : List Entry) → IsFirst p s ys → count_of p ys ≤ 1 → starting (e ∷ es) ys ≡ starting es (drop 1 ys)
     later-rest s [] first once = absurd first
     later-rest s (y ∷ ys) first once =
-        omega (arith, ap one_if (this-now y (eq-eqb p y.packet (sym first.0))), later-other ys (none-stands p ys (omega (arith, once, hit-same p y.packet (sym first.0)))))
+        omega (arith, ap one_if (this-now y (eq-eqb p y.packet (sym first.0))), later-other ys (none-on-queue p ys (omega (arith, once, hit-same p y.packet (sym first.0)))))
 
   later-arrived : (q : ℤ) (x : Entry) (es : List KernelEvent) (ys : List Entry) → starting es (arrived q x ys) ≡ starting es ys + starting es (x ∷ [])
   later-arrived q x es ys = on (same_queue q clock)
@@ -176,7 +176,7 @@ module _ (n : ℕ) where
   later-leaves (Taken r p s) due es b q once may far =
       queue-ways (λ c. starting (Taken r p s ∷ es) (b q) + 0 ≡ starting es (cond c (drop 1 (b r)) (b q))) q r
       (λ is. omega (arith, later-rest p (Taken r p s) es (take-ends r p s) far s (b q) (subst (λ z. IsFirst p s (b z)) (sym is) may) (once.once q p), ap (λ z. starting es (drop 1 (b z))) is))
-      (λ other. omega (arith, later-other p (Taken r p s) es (take-ends r p s) far (b q) (elsewhere b once p r q (first-stands p s (b r) may) other)))
+      (λ other. omega (arith, later-other p (Taken r p s) es (take-ends r p s) far (b q) (elsewhere b once p r q (first-on-queue p s (b r) may) other)))
   later-leaves (Dequeued r p) due es b q once may far =
       queue-ways (λ c. starting (Dequeued r p ∷ es) (b q) + 0 ≡ starting es (cond c (without_first (λ y. eqb p y.packet) (b r)) (b q))) q r
       (λ is. omega (arith, later-without p (Dequeued r p) es (dequeue-ends r p) far (b q) (once.once q p), ap (λ z. starting es (without_first (λ y. eqb p y.packet) (b z))) is))

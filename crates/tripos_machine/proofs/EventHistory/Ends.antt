@@ -8,10 +8,10 @@ use Rattle.kernel_lists.proofs.LinkedList.Places.{IsPlace, place}
 use Rattle.kernel_lists.specs.declared.packet_queue.events.KernelEvent.{KernelEvent}
 use Rattle.kernel_lists.specs.declared.packet_queue.events.KernelEvent.TheVariants.{Accepted, Taken, Dequeued, Runs}
 use Rattle.tripos_machine.specs.EventHistory.Acceptances.{HasEnd, IsEnd, accepted_by, accepted_in, accepted_on, accepts, at_start, before_end, is_end, is_repeated}
-use Rattle.tripos_machine.specs.EventHistory.Ledger.{AreOnce, Entry, Follows, IsFirst, Ledger, May, Timed, after_event, arrived, clock, count_of, entry_on, events_of, same_queue, stands_in}
+use Rattle.tripos_machine.specs.EventHistory.Ledger.{AreOnce, Entry, Follows, IsFirst, Ledger, May, Timed, after_event, arrived, clock, count_of, entry_on, events_of, is_on_queue, same_queue}
 use Rattle.tripos_machine.specs.EventHistory.QueueHistory.{IsEnded}
-use Rattle.tripos_machine.proofs.EventHistory.Following.{elsewhere, first-stands, once-after}
-use Rattle.tripos_machine.proofs.EventHistory.Packets.{none-stands}
+use Rattle.tripos_machine.proofs.EventHistory.Following.{elsewhere, first-on-queue, once-after}
+use Rattle.tripos_machine.proofs.EventHistory.Packets.{none-on-queue}
 use Rattle.tripos_machine.proofs.EventHistory.Queues.{queue-here, queue-ways}
 
 -- ---- one event, and one packet
@@ -61,17 +61,17 @@ abbrev AreEnded : ℤ → List KernelEvent → List Entry → Type 0
 AreEnded q es ys = AllByRecursion (λ y. IsEnded q (at_start es y)) ys
 
 -- where the packet is not there
-others-ended : (q : ℤ) (p : ℕ) (es fs : List KernelEvent) → ((y : Entry) → eqb p y.packet ≡ false → IsEnded q (at_start es y) → IsEnded q (at_start fs y)) → (ys : List Entry) → stands_in p ys ≡ false
+others-ended : (q : ℤ) (p : ℕ) (es fs : List KernelEvent) → ((y : Entry) → eqb p y.packet ≡ false → IsEnded q (at_start es y) → IsEnded q (at_start fs y)) → (ys : List Entry) → is_on_queue p ys ≡ false
     → AreEnded q es ys → AreEnded q fs ys
 others-ended q p es fs each [] none all = tt
 others-ended q p es fs each (y ∷ ys) none all = on (eqb p y.packet) refl none (λ n. others-ended q p es fs each ys n all.1)
   where
-    on : (b : Bool) → eqb p y.packet ≡ b → (b || stands_in p ys) ≡ false → (stands_in p ys ≡ false → AreEnded q fs ys) → AreEnded q fs (y ∷ ys)
+    on : (b : Bool) → eqb p y.packet ≡ b → (b || is_on_queue p ys) ≡ false → (is_on_queue p ys ≡ false → AreEnded q fs ys) → AreEnded q fs (y ∷ ys)
     on true is none more = cc
     on false is none more = (each y is all.0, more none)
 
 -- an event that is no end of any packet
-accept-ended : (q r : ℤ) (p : ℕ) (s : ℤ) (es : List KernelEvent) (ys : List Entry) → stands_in p ys ≡ false → AreEnded q es ys → AreEnded q (Accepted r p s ∷ es) ys
+accept-ended : (q r : ℤ) (p : ℕ) (s : ℤ) (es : List KernelEvent) (ys : List Entry) → is_on_queue p ys ≡ false → AreEnded q es ys → AreEnded q (Accepted r p s ∷ es) ys
 accept-ended q r p s es ys none all = others-ended q p es (Accepted r p s ∷ es) (λ y other h. record { once = ap (λ b. b || is_repeated (at_start es y)) other ∙ h.once; end = h.end }) ys none all
 
 run-ended : (q : ℤ) (t : ℕ) (es : List KernelEvent) (ys : List Entry) → AreEnded q es ys → AreEnded q (Runs t ∷ es) ys
@@ -97,7 +97,7 @@ dequeued-ended q p e es (y ∷ ys) of end once all = on (eqb p y.packet) refl on
     on : (b : Bool) → eqb p y.packet ≡ b → cond b 1 0 + count_of p ys ≤ 1 → AreEnded q es (cond b ys (y ∷ without_first (λ y. eqb p y.packet) ys))
         → (count_of p ys ≤ 1 → AreEnded q es (without_first (λ y. eqb p y.packet) ys) → AreEnded q (e ∷ es) ys) → AreEnded q (e ∷ es) (y ∷ ys)
     on true is once all more =
-        (this-ended p e es of q y (eqb-true p y.packet is) (end y), others-ended q p es (e ∷ es) (other-ended p e es of q) ys (none-stands p ys (omega (arith, once))) all)
+        (this-ended p e es of q y (eqb-true p y.packet is) (end y), others-ended q p es (e ∷ es) (other-ended p e es of q) ys (none-on-queue p ys (omega (arith, once))) all)
     on false is once all more = (other-ended p e es of q y is all.0, more (omega (arith, once)) all.1)
 
 -- the first is taken
@@ -105,7 +105,7 @@ taken-ended : (q : ℤ) (p : ℕ) (s : ℤ) (es : List KernelEvent) (ys : List E
 taken-ended q p s es [] first once all = absurd first
 taken-ended q p s es (y ∷ ys) first once all = (
   this-ended p (Taken q p s) es (take-ends q p s) q y (sym first.0) (refl, sym first.1),
-  others-ended q p es (Taken q p s ∷ es) (other-ended p (Taken q p s) es (take-ends q p s) q) ys (none-stands p ys (omega (arith, once, hit-same p y.packet (sym first.0)))) all,
+  others-ended q p es (Taken q p s ∷ es) (other-ended p (Taken q p s) es (take-ends q p s) q) ys (none-on-queue p ys (omega (arith, once, hit-same p y.packet (sym first.0)))) all,
 )
 
 -- ---- one event
@@ -123,7 +123,7 @@ step-ended (Taken r p s) due b es q h may =
     subst (λ z. AreEnded z (Taken r p s ∷ es) (b z)) (sym is)
     (taken-ended r p s es (b r) may (h.once r p) (subst (λ z. AreEnded z es (drop 1 (b r))) is all)))
     (λ other all.
-    others-ended q p es (Taken r p s ∷ es) (other-ended p (Taken r p s) es (take-ends r p s) q) (b q) (elsewhere b h p r q (first-stands p s (b r) may) other) all)
+    others-ended q p es (Taken r p s ∷ es) (other-ended p (Taken r p s) es (take-ends r p s) q) (b q) (elsewhere b h p r q (first-on-queue p s (b r) may) other) all)
 step-ended (Dequeued r p) due b es q h may =
     queue-ways (λ c. AreEnded q es (cond c (without_first (λ y. eqb p y.packet) (b r)) (b q)) → AreEnded q (Dequeued r p ∷ es) (b q)) q r
     (λ is all.

@@ -5,8 +5,8 @@ use Rattle.word_store.proofs.Counts.{hit-other, hit-same}
 use Rattle.kernel_lists.specs.LinkedList.Places.{without_first}
 use Rattle.kernel_lists.specs.declared.packet_queue.events.KernelEvent.{KernelEvent}
 use Rattle.kernel_lists.specs.declared.packet_queue.events.KernelEvent.TheVariants.{Accepted, Taken, Dequeued, Runs}
-use Rattle.tripos_machine.specs.EventHistory.Ledger.{AreOnce, Entry, Follows, IsNowhere, Ledger, May, Timed, after_event, arrived, count_of, entry_on, same_queue, stands_in, with_queue, IsFirst}
-use Rattle.tripos_machine.proofs.EventHistory.Packets.{count-arrived, count-rest, count-without, none-counted, some-counted, some-stands, none-stands}
+use Rattle.tripos_machine.specs.EventHistory.Ledger.{AreOnce, Entry, Follows, IsNowhere, Ledger, May, Timed, after_event, arrived, count_of, entry_on, same_queue, is_on_queue, with_queue, IsFirst}
+use Rattle.tripos_machine.proofs.EventHistory.Packets.{count-arrived, count-rest, count-without, none-counted, some-counted, some-on-queue, none-on-queue}
 use Rattle.tripos_machine.proofs.EventHistory.Queues.{queue-ways, same-self}
 
 -- ---- joined
@@ -18,19 +18,19 @@ follows-join (x ∷ xs) ys b m a h f = (h.0, follows-join xs ys (after_event x.e
 -- ---- where a packet stands
 
 -- a packet that stands on one queue stands on no other
-pub elsewhere : (b : Ledger) (h : AreOnce b) (p : ℕ) (r q : ℤ) → stands_in p (b r) ≡ true → same_queue q r ≡ false → stands_in p (b q) ≡ false
-elsewhere b h p r q here other = on (stands_in p (b q)) refl
+pub elsewhere : (b : Ledger) (h : AreOnce b) (p : ℕ) (r q : ℤ) → is_on_queue p (b r) ≡ true → same_queue q r ≡ false → is_on_queue p (b q) ≡ false
+elsewhere b h p r q here other = on (is_on_queue p (b q)) refl
   where
-    on : (c : Bool) → stands_in p (b q) ≡ c → c ≡ false
+    on : (c : Bool) → is_on_queue p (b q) ≡ c → c ≡ false
     on true some = clash (sym (ap (λ z. same_queue z r) (h.one q r p some here)) ∙ other)
       where
         clash : same_queue r r ≡ false → true ≡ false
         clash e = sym (same-self r) ∙ e
     on false none = refl
 
-pub first-stands : (p : ℕ) (s : ℤ) (ys : List Entry) → IsFirst p s ys → stands_in p ys ≡ true
-first-stands p s [] first = absurd first
-first-stands p s (y ∷ ys) first = ap (λ b. b || stands_in p ys) (eq-eqb p y.packet (sym first.0))
+pub first-on-queue : (p : ℕ) (s : ℤ) (ys : List Entry) → IsFirst p s ys → is_on_queue p ys ≡ true
+first-on-queue p s [] first = absurd first
+first-on-queue p s (y ∷ ys) first = ap (λ b. b || is_on_queue p ys) (eq-eqb p y.packet (sym first.0))
 
 -- ---- no packet twice
 
@@ -42,33 +42,33 @@ once-fewer q es b fewer h =
       one = λ r z p here there. h.one r z p (stood r p here) (stood z p there);
     }
   where
-    stood : (r : ℤ) (p : ℕ) → stands_in p (with_queue q es b r) ≡ true → stands_in p (b r) ≡ true
+    stood : (r : ℤ) (p : ℕ) → is_on_queue p (with_queue q es b r) ≡ true → is_on_queue p (b r) ≡ true
     stood r p =
-        queue-ways (λ c. stands_in p (cond c es (b r)) ≡ true → stands_in p (b r) ≡ true) r q
-        (λ is some. subst (λ z. stands_in p (b z) ≡ true) (sym is) (some-stands p (b q) (omega (arith, fewer p, some-counted p es some)))) (λ other some. some)
+        queue-ways (λ c. is_on_queue p (cond c es (b r)) ≡ true → is_on_queue p (b r) ≡ true) r q
+        (λ is some. subst (λ z. is_on_queue p (b z) ≡ true) (sym is) (some-on-queue p (b q) (omega (arith, fewer p, some-counted p es some)))) (λ other some. some)
 
 -- a packet comes that was nowhere
 module _ (q : ℤ) (x : Entry) (b : Ledger) (h : AreOnce b) (new : IsNowhere x.packet b) where
   abbrev a : Ledger
   a = with_queue q (arrived q x (b q)) b
 
-  came : (r : ℤ) (p : ℕ) → stands_in p (a r) ≡ true → ((p ≡ x.packet) × (r ≡ q)) ⊎ ((p ≢ x.packet) × (stands_in p (b r) ≡ true))
+  came : (r : ℤ) (p : ℕ) → is_on_queue p (a r) ≡ true → ((p ≡ x.packet) × (r ≡ q)) ⊎ ((p ≢ x.packet) × (is_on_queue p (b r) ≡ true))
   came r p =
-      queue-ways (λ c. stands_in p (cond c (arrived q x (b q)) (b r)) ≡ true → ((p ≡ x.packet) × (r ≡ q)) ⊎ ((p ≢ x.packet) × (stands_in p (b r) ≡ true))) r q here there
+      queue-ways (λ c. is_on_queue p (cond c (arrived q x (b q)) (b r)) ≡ true → ((p ≡ x.packet) × (r ≡ q)) ⊎ ((p ≢ x.packet) × (is_on_queue p (b r) ≡ true))) r q here there
     where
-      differs : stands_in p (b r) ≡ true → p ≢ x.packet
-      differs some e = absurd (omega (arith, some-counted p (b r) some, none-counted p (b r) (subst (λ z. stands_in z (b r) ≡ false) (sym e) (new r))))
+      differs : is_on_queue p (b r) ≡ true → p ≢ x.packet
+      differs some e = absurd (omega (arith, some-counted p (b r) some, none-counted p (b r) (subst (λ z. is_on_queue z (b r) ≡ false) (sym e) (new r))))
 
-      here : r ≡ q → stands_in p (arrived q x (b q)) ≡ true → ((p ≡ x.packet) × (r ≡ q)) ⊎ ((p ≢ x.packet) × (stands_in p (b r) ≡ true))
+      here : r ≡ q → is_on_queue p (arrived q x (b q)) ≡ true → ((p ≡ x.packet) × (r ≡ q)) ⊎ ((p ≢ x.packet) × (is_on_queue p (b r) ≡ true))
       here is some =
           elim (cases_eq p x.packet) [
             | inl e ↦ inl (e, is)
             | inr ne ↦
-                let old : stands_in p (b q) ≡ true = some-stands p (b q) (omega (arith, some-counted p (arrived q x (b q)) some, count-arrived p q x (b q), hit-other p x.packet ne)) in
-                inr (ne, subst (λ z. stands_in p (b z) ≡ true) (sym is) old)
+                let old : is_on_queue p (b q) ≡ true = some-on-queue p (b q) (omega (arith, some-counted p (arrived q x (b q)) some, count-arrived p q x (b q), hit-other p x.packet ne)) in
+                inr (ne, subst (λ z. is_on_queue p (b z) ≡ true) (sym is) old)
           ]
 
-      there : same_queue r q ≡ false → stands_in p (b r) ≡ true → ((p ≡ x.packet) × (r ≡ q)) ⊎ ((p ≢ x.packet) × (stands_in p (b r) ≡ true))
+      there : same_queue r q ≡ false → is_on_queue p (b r) ≡ true → ((p ≡ x.packet) × (r ≡ q)) ⊎ ((p ≢ x.packet) × (is_on_queue p (b r) ≡ true))
       there other some = inr (differs some, some)
 
   once-arrived : AreOnce a
@@ -78,7 +78,7 @@ module _ (q : ℤ) (x : Entry) (b : Ledger) (h : AreOnce b) (new : IsNowhere x.p
             queue-ways (λ c. count_of p (cond c (arrived q x (b q)) (b r)) ≤ 1) r q
             (λ is.
             elim (cases_eq p x.packet) [
-              | inl e ↦ omega (arith, count-arrived p q x (b q), hit-same p x.packet e, none-counted p (b q) (subst (λ z. stands_in z (b q) ≡ false) (sym e) (new q)))
+              | inl e ↦ omega (arith, count-arrived p q x (b q), hit-same p x.packet e, none-counted p (b q) (subst (λ z. is_on_queue z (b q) ≡ false) (sym e) (new q)))
               | inr ne ↦ omega (arith, count-arrived p q x (b q), hit-other p x.packet ne, h.once q p)
             ])
             (λ other. h.once r p);
@@ -103,8 +103,8 @@ follows-once (x ∷ xs) b a h f = follows-once xs (after_event x.event x.due b) 
 
 pub taken-nowhere : (q : ℤ) (p : ℕ) (s : ℤ) (due : ℕ) (b : Ledger) → AreOnce b → IsFirst p s (b q) → IsNowhere p (after_event (Taken q p s) due b)
 taken-nowhere q p s due b h first r =
-    queue-ways (λ c. stands_in p (cond c (drop 1 (b q)) (b r)) ≡ false) r q (λ is. gone (b q) first (h.once q p)) (λ other. elsewhere b h p q r (first-stands p s (b q) first) other)
+    queue-ways (λ c. is_on_queue p (cond c (drop 1 (b q)) (b r)) ≡ false) r q (λ is. gone (b q) first (h.once q p)) (λ other. elsewhere b h p q r (first-on-queue p s (b q) first) other)
   where
-    gone : (es : List Entry) → IsFirst p s es → count_of p es ≤ 1 → stands_in p (drop 1 es) ≡ false
+    gone : (es : List Entry) → IsFirst p s es → count_of p es ≤ 1 → is_on_queue p (drop 1 es) ≡ false
     gone [] first once = refl
-    gone (e ∷ es) first once = none-stands p es (omega (arith, once, hit-same p e.packet (sym first.0)))
+    gone (e ∷ es) first once = none-on-queue p es (omega (arith, once, hit-same p e.packet (sym first.0)))

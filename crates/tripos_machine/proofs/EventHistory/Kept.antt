@@ -8,10 +8,10 @@ use Rattle.kernel_lists.specs.LinkedList.Places.{without_first}
 use Rattle.kernel_lists.specs.declared.packet_queue.events.KernelEvent.{KernelEvent}
 use Rattle.kernel_lists.specs.declared.packet_queue.events.KernelEvent.TheVariants.{Accepted, Taken, Dequeued, Runs}
 use Rattle.tripos_machine.specs.EventHistory.Acceptances.{is_end, pair_of}
-use Rattle.tripos_machine.specs.EventHistory.Ledger.{AreOnce, Entry, Follows, IsFirst, Ledger, May, Timed, after_event, arrived, count_of, entry_on, events_of, same_queue, stands_in}
+use Rattle.tripos_machine.specs.EventHistory.Ledger.{AreOnce, Entry, Follows, IsFirst, Ledger, May, Timed, after_event, arrived, count_of, entry_on, events_of, is_on_queue, same_queue}
 use Rattle.tripos_machine.proofs.EventHistory.Ends.{EndsOf, dequeue-ends, end-other, end-this, end_in, take-ends}
-use Rattle.tripos_machine.proofs.EventHistory.Following.{elsewhere, first-stands, once-after}
-use Rattle.tripos_machine.proofs.EventHistory.Packets.{none-stands}
+use Rattle.tripos_machine.proofs.EventHistory.Following.{elsewhere, first-on-queue, once-after}
+use Rattle.tripos_machine.proofs.EventHistory.Packets.{none-on-queue}
 use Rattle.tripos_machine.proofs.EventHistory.Queues.{not-same, queue-ways, same-self}
 
 -- whether an acceptance with such an end counts; t says whether one does that is taken
@@ -64,11 +64,11 @@ module _ (t : Bool) (h : Entry → Bool) where
   kept-same e no_end es (y ∷ ys) =
       λ i. cond (h y && counts t (cond (no_end y.packet i) (Some e) (end_in y.packet es))) (pair_of y ∷ kept-same e no_end es ys i) (kept-same e no_end es ys i)
 
-  kept-other : (p : ℕ) (e : KernelEvent) (es : List KernelEvent) (ys : List Entry) → EndsOf p e → stands_in p ys ≡ false → kept (e ∷ es) ys ≡ kept es ys
+  kept-other : (p : ℕ) (e : KernelEvent) (es : List KernelEvent) (ys : List Entry) → EndsOf p e → is_on_queue p ys ≡ false → kept (e ∷ es) ys ≡ kept es ys
   kept-other p e es [] of none = refl
   kept-other p e es (y ∷ ys) of none = on (eqb p y.packet) refl none (kept-other p e es ys of)
     where
-      on : (b : Bool) → eqb p y.packet ≡ b → (b || stands_in p ys) ≡ false → (stands_in p ys ≡ false → kept (e ∷ es) ys ≡ kept es ys) → kept (e ∷ es) (y ∷ ys) ≡ kept es (y ∷ ys)
+      on : (b : Bool) → eqb p y.packet ≡ b → (b || is_on_queue p ys) ≡ false → (is_on_queue p ys ≡ false → kept (e ∷ es) ys ≡ kept es ys) → kept (e ∷ es) (y ∷ ys) ≡ kept es (y ∷ ys)
       on true is none more = cc
       on false is none more = λ i. cond (h y && counts t (end-other p e es of y.packet is i)) (pair_of y ∷ more none i) (more none i)
 
@@ -82,13 +82,13 @@ module _ (t : Bool) (h : Entry → Bool) where
 
   -- ---- one event
 
-  module _ (q : ℤ) (all : t ≡ true → (y : Entry) → h y ≡ true) (comes : (x : Entry) (es : List KernelEvent) (ys : List Entry) → stands_in x.packet ys ≡ false → kept es (arrived q x ys) ≡ kept es ys ++ kept es (x ∷ [])) where
+  module _ (q : ℤ) (all : t ≡ true → (y : Entry) → h y ≡ true) (comes : (x : Entry) (es : List KernelEvent) (ys : List Entry) → is_on_queue x.packet ys ≡ false → kept es (arrived q x ys) ≡ kept es ys ++ kept es (x ∷ [])) where
     kept-taken : (p : ℕ) (s : ℤ) (es : List KernelEvent) (ys : List Entry) → IsFirst p s ys → count_of p ys ≤ 1
         → cond (t && true) ((p, s) ∷ []) [] ++ kept es (drop 1 ys) ≡ kept (Taken q p s ∷ es) ys
     kept-taken p s es [] first once = absurd first
     kept-taken p s es (y ∷ ys) first once =
         on t refl (h y) refl (end-this p (Taken q p s) es (take-ends q p s) y.packet (sym first.0))
-        (kept-other p (Taken q p s) es ys (take-ends q p s) (none-stands p ys (omega (arith, once, hit-same p y.packet (sym first.0)))))
+        (kept-other p (Taken q p s) es ys (take-ends q p s) (none-on-queue p ys (omega (arith, once, hit-same p y.packet (sym first.0)))))
       where
         on : (c : Bool) → t ≡ c → (d : Bool) → h y ≡ d → end_in y.packet (Taken q p s ∷ es) ≡ Some (Taken q p s) → kept (Taken q p s ∷ es) ys ≡ kept es ys
             → cond (t && true) ((p, s) ∷ []) [] ++ kept es ys ≡ kept (Taken q p s ∷ es) (y ∷ ys)
@@ -118,7 +118,7 @@ module _ (t : Bool) (h : Entry → Bool) where
         on : (b : Bool) → eqb p y.packet ≡ b → cond b 1 0 + count_of p ys ≤ 1 → (count_of p ys ≤ 1 → kept es (without_first (λ y. eqb p y.packet) ys) ≡ kept (Dequeued r p ∷ es) ys)
             → kept es (cond b ys (y ∷ without_first (λ y. eqb p y.packet) ys)) ≡ kept (Dequeued r p ∷ es) (y ∷ ys)
         on true is once more =
-            sym (kept-other p (Dequeued r p) es ys (dequeue-ends r p) (none-stands p ys (omega (arith, once)))) ∙ sym (none (h y))
+            sym (kept-other p (Dequeued r p) es ys (dequeue-ends r p) (none-on-queue p ys (omega (arith, once)))) ∙ sym (none (h y))
             ∙ sym (ap (λ o. cond (h y && counts t o) (pair_of y ∷ kept (Dequeued r p ∷ es) ys) (kept (Dequeued r p ∷ es) ys)) (end-this p (Dequeued r p) es (dequeue-ends r p) y.packet (eqb-true p y.packet is)))
         on false is once more =
             let rest : kept es (without_first (λ y. eqb p y.packet) ys) ≡ kept (Dequeued r p ∷ es) ys = more (omega (arith, once)) in
@@ -145,7 +145,7 @@ module _ (t : Bool) (h : Entry → Bool) where
         (λ other.
         (λ i. cond (and-false t i) ((p, s) ∷ []) [] ++ kept es (after_event (Taken r p s) due b q))
         ∙ ap (kept es) (ap (λ c. cond c (drop 1 (b r)) (b q)) (not-same r q other))
-        ∙ sym (kept-other p (Taken r p s) es (b q) (take-ends r p s) (elsewhere b once p r q (first-stands p s (b r) may) (not-same r q other)))
+        ∙ sym (kept-other p (Taken r p s) es (b q) (take-ends r p s) (elsewhere b once p r q (first-on-queue p s (b r) may) (not-same r q other)))
         ∙ sym (append-nil (kept (Taken r p s ∷ es) (b q))))
     stays (Dequeued r p) due es b once may =
         queue-ways (λ c. kept es (cond c (without_first (λ y. eqb p y.packet) (b r)) (b q)) ≡ kept (Dequeued r p ∷ es) (b q) ++ []) q r

@@ -3,38 +3,38 @@ use Rattle.std.proofs.Common.{◌≡◌, ℕ, ℤ, ◌+◌, ◌<◌, ◌≤◌, 
 use Rattle.std.specs.List.{list_any}
 use Rattle.word_store.specs.Count.{hit}
 use Rattle.kernel_lists.specs.LinkedList.Places.{insert_after, without_first}
-use Rattle.tripos_machine.specs.EventHistory.Ledger.{Entry, arrived, clock, count_of, same_queue, stands_in}
+use Rattle.tripos_machine.specs.EventHistory.Ledger.{Entry, arrived, clock, count_of, is_on_queue, same_queue}
 
 -- ---- a packet stands there where it is counted
 
-pub none-stands : (p : ℕ) (es : List Entry) → count_of p es ≡ 0 → stands_in p es ≡ false
-none-stands p [] z = refl
-none-stands p (e ∷ es) z = on (eqb p e.packet) z (none-stands p es)
+pub none-on-queue : (p : ℕ) (es : List Entry) → count_of p es ≡ 0 → is_on_queue p es ≡ false
+none-on-queue p [] z = refl
+none-on-queue p (e ∷ es) z = on (eqb p e.packet) z (none-on-queue p es)
   where
-    on : (b : Bool) → cond b 1 0 + count_of p es ≡ 0 → (count_of p es ≡ 0 → stands_in p es ≡ false) → (b || stands_in p es) ≡ false
+    on : (b : Bool) → cond b 1 0 + count_of p es ≡ 0 → (count_of p es ≡ 0 → is_on_queue p es ≡ false) → (b || is_on_queue p es) ≡ false
     on true z more = absurd (omega (arith, z))
     on false z more = more (omega (arith, z))
 
-pub none-counted : (p : ℕ) (es : List Entry) → stands_in p es ≡ false → count_of p es ≡ 0
+pub none-counted : (p : ℕ) (es : List Entry) → is_on_queue p es ≡ false → count_of p es ≡ 0
 none-counted p [] z = refl
 none-counted p (e ∷ es) z = on (eqb p e.packet) z (none-counted p es)
   where
-    on : (b : Bool) → (b || stands_in p es) ≡ false → (stands_in p es ≡ false → count_of p es ≡ 0) → cond b 1 0 + count_of p es ≡ 0
+    on : (b : Bool) → (b || is_on_queue p es) ≡ false → (is_on_queue p es ≡ false → count_of p es ≡ 0) → cond b 1 0 + count_of p es ≡ 0
     on true z more = cc
     on false z more = omega (arith, more z)
 
-pub some-stands : (p : ℕ) (es : List Entry) → 0 < count_of p es → stands_in p es ≡ true
-some-stands p es some = on (stands_in p es) refl
+pub some-on-queue : (p : ℕ) (es : List Entry) → 0 < count_of p es → is_on_queue p es ≡ true
+some-on-queue p es some = on (is_on_queue p es) refl
   where
-    on : (b : Bool) → stands_in p es ≡ b → b ≡ true
+    on : (b : Bool) → is_on_queue p es ≡ b → b ≡ true
     on true e = refl
     on false e = absurd (omega (arith, some, none-counted p es e))
 
-pub some-counted : (p : ℕ) (es : List Entry) → stands_in p es ≡ true → 0 < count_of p es
+pub some-counted : (p : ℕ) (es : List Entry) → is_on_queue p es ≡ true → 0 < count_of p es
 some-counted p [] some = cc
 some-counted p (e ∷ es) some = on (eqb p e.packet) some (some-counted p es)
   where
-    on : (b : Bool) → (b || stands_in p es) ≡ true → (stands_in p es ≡ true → 0 < count_of p es) → 0 < cond b 1 0 + count_of p es
+    on : (b : Bool) → (b || is_on_queue p es) ≡ true → (is_on_queue p es ≡ true → 0 < count_of p es) → 0 < cond b 1 0 + count_of p es
     on true some more = omega arith
     on false some more = omega (arith, more some)
 

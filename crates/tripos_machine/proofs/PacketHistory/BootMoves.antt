@@ -14,7 +14,7 @@ use Rattle.kernel_model.specs.KernelRecord.Image.{image, settled}
 use Rattle.kernel_model.specs.KernelRecord.Kernel.{Kernel}
 use Rattle.kernel_model.specs.KernelRecord.Lists.{Lists, has_task}
 use Rattle.kernel_model.specs.KernelRecord.Residents.{key_packet}
-use Rattle.kernel_model.specs.KernelRecord.Standing.{standing, Standing, left_with}
+use Rattle.kernel_model.specs.KernelRecord.StoreWithLists.{store_with_lists, StoreWithLists, left_with}
 use Rattle.kernel_model.specs.KernelRecord.Task.{Task, is_guest_id}
 use Rattle.kernel_model.specs.KernelRecord.ValidQueues.Place.{Keyboard, Work}
 use Rattle.kernel_model.proofs.KernelRecord.EachMember.{all-each}
@@ -40,11 +40,11 @@ use Rattle.kernel_machine.specs.KernelSteps.ResidentSteps.{with_disc}
 use Rattle.kernel_machine.specs.KernelSteps.Step.{boot_events, dispatch, first_events, run_events}
 use Rattle.kernel_machine.specs.KernelSteps.Stepped.{Stepped}
 use Rattle.kernel_machine.proofs.KernelSteps.DispatchKept.{dispatch-numbers, three-ways}
-use Rattle.kernel_machine.specs.MachineBoot.Boot.{HasKernel, boot, first_kernel, first_lists, started, with_files, with_lines, with_standing, with_tasks}
+use Rattle.kernel_machine.specs.MachineBoot.Boot.{HasKernel, boot, first_kernel, first_lists, started, with_files, with_lines, with_store_of, with_tasks}
 use Rattle.kernel_machine.specs.MachineBoot.Booted.{IsFresh}
 use Rattle.kernel_machine.proofs.MachineBoot.BegunKernels.{HasBegun, first-begun, lines-begun}
 use Rattle.kernel_machine.proofs.MachineBoot.BootedKernels.{booted-events}
-use Rattle.tripos_machine.specs.EventHistory.Ledger.{Follows, IsNowhere, Ledger, same_queue, stands_in, with_queue as put}
+use Rattle.tripos_machine.specs.EventHistory.Ledger.{Follows, IsNowhere, Ledger, is_on_queue, same_queue, with_queue as put}
 use Rattle.tripos_machine.proofs.EventHistory.Following.{follows-join}
 use Rattle.tripos_machine.specs.PacketHistory.Queues.{clock_entry, entry_of, ledger_of, timed_by}
 use Rattle.tripos_machine.proofs.PacketHistory.Ledgers.{ledger-put, ledger-same, ledger-task}
@@ -121,7 +121,7 @@ module _ (due : KernelEvent → ℕ) (version period size : ℕ) where
     nowhere-then =
         subst (IsNowhere 279) ((λ i. put (negsuc 1) (entry_of keys ∷ []) (none i)) ∙ sym (ledger-put before Keyboard (keys ∷ []) tt tt)) (λ q. on (same_queue q (negsuc 1)))
       where
-        on : (b : Bool) → stands_in 279 (cond b (entry_of keys ∷ []) []) ≡ false
+        on : (b : Bool) → is_on_queue 279 (cond b (entry_of keys ∷ []) []) ≡ false
         on true = refl
         on false = refl
 
@@ -166,8 +166,8 @@ bytes-same : (l : Lists) (o : Option (List ℕ)) → Same l (load_bytes l o).lis
 bytes-same l None = refl
 bytes-same l (Some bytes) = load-same l (Some bytes) (Ok tt)
 
-names-same : (d : Disc) (names : List (List ℕ)) (modules : List ℕ) (k : Standing) (x : List ℕ × Standing) → load_names d names modules k ≡ Ok x → Same k.lists x.1.lists
-names-same d [] modules k x is = (let same : (modules, k) ≡ x = cc in subst (λ (y : List ℕ × Standing). Same k.lists y.1.lists) same refl)
+names-same : (d : Disc) (names : List (List ℕ)) (modules : List ℕ) (k : StoreWithLists) (x : List ℕ × StoreWithLists) → load_names d names modules k ≡ Ok x → Same k.lists x.1.lists
+names-same d [] modules k x is = (let same : (modules, k) ≡ x = cc in subst (λ (y : List ℕ × StoreWithLists). Same k.lists y.1.lists) same refl)
 names-same d (name ∷ names) modules k x is =
     on (λ m e. names-same d names (modules ++ m ∷ []) (left_with k.words (load_named d name k.lists).lists (load_named d name k.lists).plain) x e) (load_named d name k.lists).answer is
   where
@@ -187,23 +187,23 @@ created-same s l id modules u pri maker low away =
     refused-same (first_refusal (creation_tests s l id modules u pri)) l made
     (ledger-same l made.lists (λ i. work-new i _ t l.tasks (ap (λ z. has_task z l.tasks) (number-is l id n low refl) ∙ away) refl) refl refl refl refl)
 
-begin-same : (r : Result ℕ ℕ) (k j : Standing) → on_answer r k begin_it ≡ Ok j → Same k.lists j.lists
+begin-same : (r : Result ℕ ℕ) (k j : StoreWithLists) → on_answer r k begin_it ≡ Ok j → Same k.lists j.lists
 begin-same (Ok n) k j is =
     let same : left_with k.words (with_begun k.words n k.lists) [] ≡ j = cc in
-    subst (λ (y : Standing). Same k.lists y.lists) same (begun-same n k)
+    subst (λ (y : StoreWithLists). Same k.lists y.lists) same (begun-same n k)
 begin-same (Err code) k j is = cc
 
-create-same : (id pri stack : ℕ) → 5 ≤ id → (l : Lists) (r : Result (List ℕ × Standing) ℕ) (j : Standing) → create_it id pri stack r ≡ Ok j
-    → ((x : List ℕ × Standing) → r ≡ Ok x → Same l x.1.lists × (has_task id x.1.lists.tasks ≡ false)) → Same l j.lists
+create-same : (id pri stack : ℕ) → 5 ≤ id → (l : Lists) (r : Result (List ℕ × StoreWithLists) ℕ) (j : StoreWithLists) → create_it id pri stack r ≡ Ok j
+    → ((x : List ℕ × StoreWithLists) → r ≡ Ok x → Same l x.1.lists × (has_task id x.1.lists.tasks ≡ false)) → Same l j.lists
 create-same id pri stack low l (Ok x) j is h =
     let made : Made = create_task x.1.words x.1.lists id x.0 stack pri 0 in
     let before = h x refl in
     begin-same made.answer (left_with x.1.words made.lists made.plain) j is ∙ created-same x.1.words x.1.lists id x.0 stack pri 0 low before.1 ∙ before.0
 create-same id pri stack low l (Err code) j is h = cc
 
-form-same : (version : ℕ) (d : Disc) (form : LineForm) (k j : Standing) → IsBootForm version form → start_form d form k ≡ Ok j → Same k.lists j.lists
-form-same version d (File name bytes) k j may is = (let same : k ≡ j = cc in subst (λ (y : Standing). Same k.lists y.lists) same refl)
-form-same version d (Code bytes) k j may is = (let same : k ≡ j = cc in subst (λ (y : Standing). Same k.lists y.lists) same refl)
+form-same : (version : ℕ) (d : Disc) (form : LineForm) (k j : StoreWithLists) → IsBootForm version form → start_form d form k ≡ Ok j → Same k.lists j.lists
+form-same version d (File name bytes) k j may is = (let same : k ≡ j = cc in subst (λ (y : StoreWithLists). Same k.lists y.lists) same refl)
+form-same version d (Code bytes) k j may is = (let same : k ≡ j = cc in subst (λ (y : StoreWithLists). Same k.lists y.lists) same refl)
 form-same version d (TaskForm id pri stack names) k j may is = on (has_task id k.lists.tasks) refl is
   where
     on : (b : Bool) → has_task id k.lists.tasks ≡ b → cond b (Err 27) (create_it id pri stack (load_names d names [] k)) ≡ Ok j → Same k.lists j.lists
@@ -212,11 +212,11 @@ form-same version d (TaskForm id pri stack names) k j may is = on (has_task id k
         create-same id pri stack may.low k.lists (load_names d names [] k) j e
         (λ x loaded. (names-same d names [] k x loaded, ap (has_task id) (names-loaded d names [] k x loaded).tasks ∙ away))
 
-tasks-same : (version : ℕ) (d : Disc) (lines : List SessionLine) (k j : Standing) → AreBootLines version lines → start_tasks d lines k ≡ Ok j → Same k.lists j.lists
-tasks-same version d [] k j may is = (let same : k ≡ j = cc in subst (λ (y : Standing). Same k.lists y.lists) same refl)
+tasks-same : (version : ℕ) (d : Disc) (lines : List SessionLine) (k j : StoreWithLists) → AreBootLines version lines → start_tasks d lines k ≡ Ok j → Same k.lists j.lists
+tasks-same version d [] k j may is = (let same : k ≡ j = cc in subst (λ (y : StoreWithLists). Same k.lists y.lists) same refl)
 tasks-same version d (line ∷ lines) k j may is = on (λ i e. tasks-same version d lines i j may.1 e) (start_form d line.form k) refl is
   where
-    on : ((i : Standing) → start_tasks d lines i ≡ Ok j → Same i.lists j.lists) → (r : Result Standing ℕ) → start_form d line.form k ≡ r
+    on : ((i : StoreWithLists) → start_tasks d lines i ≡ Ok j → Same i.lists j.lists) → (r : Result StoreWithLists ℕ) → start_form d line.form k ≡ r
         → at_line line.line r (λ i. start_tasks d lines i) ≡ Ok j → Same k.lists j.lists
     on more (Ok i) e f = more i f ∙ form-same version d line.form k i may.0 e
     on more (Err code) e f = cc
@@ -231,12 +231,12 @@ files-same lines k j is = on (load_files k.disc lines) is
 
 with_tasks-same : (version : ℕ) (lines : List SessionLine) (k j : Kernel) → AreBootLines version lines → with_tasks lines k ≡ Ok j → Same k.lists j.lists
 unfolding with_tasks
-with_tasks-same version lines k j may is = on (start_tasks k.disc lines (standing (image k) k.lists)) refl is
+with_tasks-same version lines k j may is = on (start_tasks k.disc lines (store_with_lists (image k) k.lists)) refl is
   where
-    on : (r : Result Standing BootRefusal) → start_tasks k.disc lines (standing (image k) k.lists) ≡ r → (r >>= (λ x. Ok (with_standing x k))) ≡ Ok j → Same k.lists j.lists
+    on : (r : Result StoreWithLists BootRefusal) → start_tasks k.disc lines (store_with_lists (image k) k.lists) ≡ r → (r >>= (λ x. Ok (with_store_of x k))) ≡ Ok j → Same k.lists j.lists
     on (Ok x) e f =
-        let same : with_standing x k ≡ j = cc in
-        subst (λ (z : Kernel). Same k.lists z.lists) same (tasks-same version k.disc lines (standing (image k) k.lists) x may e)
+        let same : with_store_of x k ≡ j = cc in
+        subst (λ (z : Kernel). Same k.lists z.lists) same (tasks-same version k.disc lines (store_with_lists (image k) k.lists) x may e)
     on (Err refusal) e f = cc
 
 lines-same : (version : ℕ) (lines : List SessionLine) (k j : Kernel) → AreBootLines version lines → with_lines lines k ≡ Ok j → Same k.lists j.lists

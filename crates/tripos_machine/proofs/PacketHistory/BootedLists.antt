@@ -9,7 +9,7 @@ use Rattle.kernel_model.specs.KernelRecord.Image.{image}
 use Rattle.kernel_model.specs.KernelRecord.Kernel.{Kernel}
 use Rattle.kernel_model.specs.KernelRecord.Lists.{Lists, has_task}
 use Rattle.kernel_model.specs.KernelRecord.Pipes.{no_pipes}
-use Rattle.kernel_model.specs.KernelRecord.Standing.{Standing, left_with, standing}
+use Rattle.kernel_model.specs.KernelRecord.StoreWithLists.{StoreWithLists, left_with, store_with_lists}
 use Rattle.kernel_model.specs.KernelRecord.ValidKernel.{IsValid}
 use Rattle.kernel_model.specs.KernelRecord.ValidLists.{AreValid}
 use Rattle.kernel_calls.specs.CallAnswers.Made.{Made}
@@ -33,7 +33,7 @@ use Rattle.kernel_machine.specs.KernelSteps.Step.{dispatch}
 use Rattle.kernel_machine.specs.KernelSteps.Stepped.{with_store, Stepped}
 use Rattle.kernel_machine.proofs.KernelSteps.StepKept.{dispatch-residents, dispatch-same}
 use Rattle.kernel_machine.proofs.KernelSteps.StoredWords.{plain-stored}
-use Rattle.kernel_machine.specs.MachineBoot.Boot.{HasKernel, boot, first_kernel, first_lists, started, with_files, with_lines, with_standing, with_tasks}
+use Rattle.kernel_machine.specs.MachineBoot.Boot.{HasKernel, boot, first_kernel, first_lists, started, with_files, with_lines, with_store_of, with_tasks}
 use Rattle.kernel_machine.proofs.MachineBoot.BegunKernels.{HasBegun, begun-dispatches, first-begun, lines-begun}
 use Rattle.kernel_machine.proofs.MachineBoot.BootedKernels.{booted-full, booted-goes}
 use Rattle.tripos_machine.proofs.PacketHistory.TaskCalls.{create_task-valid}
@@ -58,18 +58,18 @@ module _ (s : Session) (h : HasKernel s) where
 -- ---- the lines
 
 -- the store of the standing holds its lists
-abbrev Holds : Standing → Type 0
+abbrev Holds : StoreWithLists → Type 0
 Holds k = HoldsLists k.words k.lists
 
-named-holds : (d : Disc) (name : List ℕ) (k : Standing) → Holds k → Holds (left_with k.words (load_named d name k.lists).lists (load_named d name k.lists).plain)
+named-holds : (d : Disc) (name : List ℕ) (k : StoreWithLists) → Holds k → Holds (left_with k.words (load_named d name k.lists).lists (load_named d name k.lists).plain)
 named-holds d name k h = on (option_map (λ f. f.bytes) (file_named d name))
   where
     on : (o : Option (List ℕ)) → Holds (left_with k.words (load_bytes k.lists o).lists (load_bytes k.lists o).plain)
     on None = found-holds k None (Ok tt) h
     on (Some bytes) = found-holds k (Some bytes) (Ok tt) h
 
-names-hold : (d : Disc) (names : List (List ℕ)) (modules : List ℕ) (k : Standing) (x : List ℕ × Standing) → load_names d names modules k ≡ Ok x → Holds k → Holds x.1
-names-hold d [] modules k x is h = (let same : (modules, k) ≡ x = cc in subst (λ (y : List ℕ × Standing). Holds y.1) same h)
+names-hold : (d : Disc) (names : List (List ℕ)) (modules : List ℕ) (k : StoreWithLists) (x : List ℕ × StoreWithLists) → load_names d names modules k ≡ Ok x → Holds k → Holds x.1
+names-hold d [] modules k x is h = (let same : (modules, k) ≡ x = cc in subst (λ (y : List ℕ × StoreWithLists). Holds y.1) same h)
 names-hold d (name ∷ names) modules k x is h =
     on (λ m e. names-hold d names (modules ++ m ∷ []) (left_with k.words (load_named d name k.lists).lists (load_named d name k.lists).plain) x e (named-holds d name k h))
     (load_named d name k.lists).answer is
@@ -82,7 +82,7 @@ names-hold d (name ∷ names) modules k x is h =
 
 -- a task is created, and begins
 module _ (id pri stack : ℕ) (low : 5 ≤ id) where
-  created-holds : (modules : List ℕ) (k j : Standing) → Holds k → MayCreate k.lists id modules 0
+  created-holds : (modules : List ℕ) (k j : StoreWithLists) → Holds k → MayCreate k.lists id modules 0
       → on_answer (create_task k.words k.lists id modules stack pri 0).answer
       (left_with k.words (create_task k.words k.lists id modules stack pri 0).lists (create_task k.words k.lists id modules stack pri 0).plain) begin_it
       ≡ Ok j
@@ -92,7 +92,7 @@ module _ (id pri stack : ℕ) (low : 5 ≤ id) where
       made : Made
       made = create_task k.words k.lists id modules stack pri 0
 
-      i : Standing
+      i : StoreWithLists
       i = left_with k.words made.lists made.plain
 
       left : Holds i
@@ -107,12 +107,12 @@ module _ (id pri stack : ℕ) (low : 5 ≤ id) where
           subst Holds same (begun-holds n i (guest-created k.words k.lists id modules stack pri 0 n low e) left)
       on (Err code) e f = cc
 
-form-holds : (d : Disc) (form : LineForm) (k j : Standing) → IsBootForm k.lists.version form → start_form d form k ≡ Ok j → Holds k → Holds j
+form-holds : (d : Disc) (form : LineForm) (k j : StoreWithLists) → IsBootForm k.lists.version form → start_form d form k ≡ Ok j → Holds k → Holds j
 form-holds d (File name bytes) k j may is h = (let same : k ≡ j = cc in subst Holds same h)
 form-holds d (Code bytes) k j may is h = (let same : k ≡ j = cc in subst Holds same h)
 form-holds d (TaskForm id pri stack names) k j may is h = on (has_task id k.lists.tasks) refl is
   where
-    create : has_task id k.lists.tasks ≡ false → (r : Result (List ℕ × Standing) ℕ) → load_names d names [] k ≡ r → create_it id pri stack r ≡ Ok j → Holds j
+    create : has_task id k.lists.tasks ≡ false → (r : Result (List ℕ × StoreWithLists) ℕ) → load_names d names [] k ≡ r → create_it id pri stack r ≡ Ok j → Holds j
     create away (Ok x) loaded f =
         created-holds id pri stack may.low x.0 x.1 j (names-hold d names [] k x loaded h) (may-create d id names k.words x.1.words k.lists x.1.lists x.0 x.0 may away refl loaded) f
     create away (Err code) loaded f = cc
@@ -121,28 +121,28 @@ form-holds d (TaskForm id pri stack names) k j may is h = on (has_task id k.list
     on true away e = cc
     on false away e = create away (load_names d names [] k) refl e
 
-tasks-hold : (version : ℕ) (d : Disc) (lines : List SessionLine) (k j : Standing) → AreBootLines version lines → version ≡ k.lists.version → start_tasks d lines k ≡ Ok j → Holds k → Holds j
+tasks-hold : (version : ℕ) (d : Disc) (lines : List SessionLine) (k j : StoreWithLists) → AreBootLines version lines → version ≡ k.lists.version → start_tasks d lines k ≡ Ok j → Holds k → Holds j
 tasks-hold version d [] k j may same is h = (let same : k ≡ j = cc in subst Holds same h)
 tasks-hold version d (line ∷ lines) k j may same is h = on (λ i v e x. tasks-hold version d lines i j may.1 v e x) (start_form d line.form k) refl is
   where
-    on : ((i : Standing) → version ≡ i.lists.version → start_tasks d lines i ≡ Ok j → Holds i → Holds j) → (r : Result Standing ℕ) → start_form d line.form k ≡ r
+    on : ((i : StoreWithLists) → version ≡ i.lists.version → start_tasks d lines i ≡ Ok j → Holds i → Holds j) → (r : Result StoreWithLists ℕ) → start_form d line.form k ≡ r
         → at_line line.line r (λ i. start_tasks d lines i) ≡ Ok j → Holds j
     on more (Ok i) e f = more i (same ∙ sym (form-keeps d line.form k i e)) f (form-holds d line.form k i (subst (λ v. IsBootForm v line.form) same may.0) e h)
     on more (Err code) e f = cc
 
 -- ---- the kernel
 
-stored-stands : (words : List ℕ) (l : Lists) (k j : Kernel) → AreValid l → j.lists ≡ l → j.plain ≡ (with_store words l k).plain → HasValidImage j
-stored-stands words l k j v lists plain =
+stored-valid : (words : List ℕ) (l : Lists) (k j : Kernel) → AreValid l → j.lists ≡ l → j.plain ≡ (with_store words l k).plain → HasValidImage j
+stored-valid words l k j v lists plain =
     record { lists = subst AreValid (sym lists) v; plain = plain-like (with_store words l k) j (plain-stored words l k v.owns) lists plain }
 
-first-stands : (s : Session) → HasKernel s → HasValidImage (first_kernel s)
+first-valid : (s : Session) → HasKernel s → HasValidImage (first_kernel s)
 unfolding first_kernel
-first-stands s h = stored-stands (replicate s.store 0) (first_lists s) (first_kernel s) (first_kernel s) (first-valid s h) refl refl
+first-valid s h = stored-valid (replicate s.store 0) (first_lists s) (first_kernel s) (first_kernel s) (first-valid s h) refl refl
 
-files-stand : (lines : List SessionLine) (k j : Kernel) → with_files lines k ≡ Ok j → HasValidImage k → (j.lists ≡ k.lists) × HasValidImage j
+files-valid : (lines : List SessionLine) (k j : Kernel) → with_files lines k ≡ Ok j → HasValidImage k → (j.lists ≡ k.lists) × HasValidImage j
 unfolding with_files
-files-stand lines k j is h = on (load_files k.disc lines) is
+files-valid lines k j is h = on (load_files k.disc lines) is
   where
     on : (r : Result Disc BootRefusal) → (r >>= (λ d. Ok (with_disc d k))) ≡ Ok j → (j.lists ≡ k.lists) × HasValidImage j
     on (Ok d) f =
@@ -150,25 +150,25 @@ files-stand lines k j is h = on (load_files k.disc lines) is
         subst (λ (z : Kernel). (z.lists ≡ k.lists) × HasValidImage z) same (refl, record { lists = h.lists; plain = plain-like k (with_disc d k) h.plain refl refl })
     on (Err refusal) f = cc
 
-started-stand : (lines : List SessionLine) (k j : Kernel) → AreBootLines k.lists.version lines → with_tasks lines k ≡ Ok j → HasValidImage k → HasValidImage j
+started-valid : (lines : List SessionLine) (k j : Kernel) → AreBootLines k.lists.version lines → with_tasks lines k ≡ Ok j → HasValidImage k → HasValidImage j
 unfolding with_tasks
-started-stand lines k j may is h = on (start_tasks k.disc lines (standing (image k) k.lists)) refl is
+started-valid lines k j may is h = on (start_tasks k.disc lines (store_with_lists (image k) k.lists)) refl is
   where
-    on : (r : Result Standing BootRefusal) → start_tasks k.disc lines (standing (image k) k.lists) ≡ r → (r >>= (λ x. Ok (with_standing x k))) ≡ Ok j → HasValidImage j
+    on : (r : Result StoreWithLists BootRefusal) → start_tasks k.disc lines (store_with_lists (image k) k.lists) ≡ r → (r >>= (λ x. Ok (with_store_of x k))) ≡ Ok j → HasValidImage j
     on (Ok x) e f =
-        let same : with_standing x k ≡ j = cc in
+        let same : with_store_of x k ≡ j = cc in
         subst HasValidImage same
-        (stored-stands x.words x.lists k (with_standing x k) (tasks-hold k.lists.version k.disc lines (standing (image k) k.lists) x may refl e (image-holds k h)).valid refl refl)
+        (stored-valid x.words x.lists k (with_store_of x k) (tasks-hold k.lists.version k.disc lines (store_with_lists (image k) k.lists) x may refl e (image-holds k h)).valid refl refl)
     on (Err refusal) e f = cc
 
-lines-stand : (version : ℕ) (lines : List SessionLine) (k j : Kernel) → AreBootLines version lines → k.lists.version ≡ version → with_lines lines k ≡ Ok j → HasValidImage k → HasValidImage j
+lines-valid : (version : ℕ) (lines : List SessionLine) (k j : Kernel) → AreBootLines version lines → k.lists.version ≡ version → with_lines lines k ≡ Ok j → HasValidImage k → HasValidImage j
 unfolding with_lines
-lines-stand version lines k j may same is h = on (with_files lines k) refl is
+lines-valid version lines k j may same is h = on (with_files lines k) refl is
   where
     on : (r : Result Kernel BootRefusal) → with_files lines k ≡ r → (r >>= with_tasks lines) ≡ Ok j → HasValidImage j
     on (Ok i) e f =
-        let r = files-stand lines k i e h in
-        started-stand lines i j (subst (λ v. AreBootLines v lines) (sym (ap (λ (l : Lists). l.version) r.0 ∙ same)) may) f r.1
+        let r = files-valid lines k i e h in
+        started-valid lines i j (subst (λ v. AreBootLines v lines) (sym (ap (λ (l : Lists). l.version) r.0 ∙ same)) may) f r.1
     on (Err refusal) e f = cc
 
 -- ---- the boot
@@ -180,10 +180,10 @@ pub record IsBooted (k : Kernel) : Type 0 where
   pub steps : k.steps ≡ 0
   pub pipes : k.pipes ≡ no_pipes
 
-module _ (s : Session) (h : HasKernel s) (k : Kernel) (b : HasBegun s k) (stands : HasValidImage k) where
+module _ (s : Session) (h : HasKernel s) (k : Kernel) (b : HasBegun s k) (with-image : HasValidImage k) where
   dispatched-is : IsBooted (dispatch k).kernel
   dispatched-is =
-      let v : AreValid (dispatch k).kernel.lists = part-valid k stands.lists (begun-dispatches s h k b) in
+      let v : AreValid (dispatch k).kernel.lists = part-valid k with-image.lists (begun-dispatches s h k b) in
       record { valid = booted-full s h k b v (dispatch-left k v); goes = booted-goes s h k b; steps = (dispatch-same k).steps ∙ b.steps; pipes = (dispatch-residents k).pipes ∙ b.pipes }
 
 pub booted-is : (s : Session) → HasKernel s → (x : Stepped) → boot s ≡ Ok x → IsBooted x.kernel
@@ -196,5 +196,5 @@ booted-is s h x is = on (with_lines s.lines (first_kernel s)) refl is
         let first : HasBegun s (first_kernel s) = first-begun s in
         let version : (first_kernel s).lists.version ≡ s.version = ap (λ n. n.version) first.ready.numbers in
         subst (λ (y : Stepped). IsBooted y.kernel) same
-        (dispatched-is s h k (lines-begun s h (first_kernel s) k first e) (lines-stand s.version s.lines (first_kernel s) k (boot-lines s h.lawful) version e (first-stands s h)))
+        (dispatched-is s h k (lines-begun s h (first_kernel s) k first e) (lines-valid s.version s.lines (first_kernel s) k (boot-lines s h.lawful) version e (first-valid s h)))
     on (Err refusal) e f = cc

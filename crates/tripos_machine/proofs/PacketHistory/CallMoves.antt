@@ -22,10 +22,10 @@ use Rattle.kernel_calls.specs.PacketCalls.Dqpkt.{Search, dequeued, dqpkt, dqpkt_
 use Rattle.kernel_calls.specs.PacketCalls.PacketMoves.{sent_packet, with_arrived, with_departed}
 use Rattle.kernel_calls.specs.PacketCalls.Qpkt.{qpkt, qpkt_tests, sent_to}
 use Rattle.kernel_calls.specs.PacketCalls.TaskWait.{taskwait, waited, waiting}
-use Rattle.kernel_calls.proofs.PacketCalls.HeldPlaces.{StandsBetween, stands-between}
+use Rattle.kernel_calls.proofs.PacketCalls.HeldPlaces.{IsQueuedBetween, between-parts}
 use Rattle.kernel_calls.proofs.PacketCalls.NamedQueues.{named-place}
 use Rattle.kernel_calls.proofs.PacketCalls.PacketTests.{plain-unowned}
-use Rattle.tripos_machine.specs.EventHistory.Ledger.{IsNowhere, stands_in}
+use Rattle.tripos_machine.specs.EventHistory.Ledger.{IsNowhere, is_on_queue}
 use Rattle.tripos_machine.proofs.EventHistory.Packets.{some-counted}
 use Rattle.tripos_machine.specs.PacketHistory.Queues.{IsDueIn, Moves, ledger_of}
 use Rattle.tripos_machine.proofs.PacketHistory.Ledgers.{IsNamed, ledger-task, number_of}
@@ -52,9 +52,9 @@ taskwait-moves due l v there = on (queue_of (Work l.running) l) refl
 
 -- what nobody owns stands on no queue
 pub unowned-nowhere : (l : Lists) → AreValid l → (a : ℕ) → owners a (owned l) ≡ 0 → IsNowhere a (ledger_of l)
-unowned-nowhere l v a none q = on (stands_in a (ledger_of l q)) refl
+unowned-nowhere l v a none q = on (is_on_queue a (ledger_of l q)) refl
   where
-    on : (b : Bool) → stands_in a (ledger_of l q) ≡ b → b ≡ false
+    on : (b : Bool) → is_on_queue a (ledger_of l q) ≡ b → b ≡ false
     on false e = refl
     on true e =
         let p : IsPlaceOf l q = has-place l v q a e in
@@ -146,6 +146,6 @@ dqpkt-moves due l id p v there = refused-moves due l (dqpkt_tests l id p) (deque
     on to None is = move-none due l l refl
     on to (Some w) is =
         let r = found-one (IsSearch l) (λ w. list_any (λ q. eqb p q.address) (queue_of w.place l)) (searches l id) w is (all-searches l v there id to) in
-        let z : StandsBetween p (queue_of w.place l) = stands-between p (queue_of w.place l) r.1 in
+        let z : IsQueuedBetween p (queue_of w.place l) = between-parts p (queue_of w.place l) r.1 in
         subst (λ q. Moves due l (Dequeued q p ∷ []) (with_departed p w.place l)) r.0.number
         (move-dequeued due l w.place z.packet p (place-there l w.place z.front z.packet z.back v z.is) r.0.named r.1)

@@ -11,10 +11,10 @@ use Rattle.kernel_model.specs.KernelRecord.Kernel.{Console}
 use Rattle.kernel_model.specs.KernelRecord.Lists.{Lists, has_task}
 use Rattle.kernel_model.specs.KernelRecord.Residents.{key_packet, keyboard}
 use Rattle.kernel_model.specs.KernelRecord.ValidLists.{AreValid}
-use Rattle.kernel_model.specs.KernelRecord.ValidQueues.{IsFaultPacket, IsKeyPacket, MayStand, is_fault_packet, is_key_packet}
+use Rattle.kernel_model.specs.KernelRecord.ValidQueues.{IsFaultPacket, IsKeyPacket, IsValidPacket, is_fault_packet, is_key_packet}
 use Rattle.kernel_model.specs.KernelRecord.ValidQueues.Place.{Pending, Work}
 use Rattle.kernel_model.specs.declared.kernel_record.numbers.TheConstants.{CONSOLE}
-use Rattle.kernel_model.proofs.KernelRecord.QueuePlaces.{place-stands}
+use Rattle.kernel_model.proofs.KernelRecord.QueuePlaces.{valid-at-place}
 use Rattle.kernel_model.proofs.KernelRecord.ResidentPackets.{key_unqueued-valid}
 use Rattle.kernel_calls.specs.CallAnswers.Guests.{guest_tests}
 use Rattle.kernel_calls.specs.CallAnswers.Made.{done}
@@ -57,27 +57,27 @@ left-so s l m es fs plain x v size runs same = record { holds = settled-holds s 
 
 module _ (s : List ℕ) (l : Lists) (es : List KernelEvent) (x : IsConsole s l es) (p : QueuedPacket) (ps : List QueuedPacket) where
   module _ (is : work l ≡ p ∷ ps) where
-    work-stands : MayStand l (Work l.running) p
-    work-stands = (subst (AllByRecursion (MayStand l (Work l.running))) is (place-stands l (Work l.running) x.holds.valid x.runs.there)).0
+    work-valid : IsValidPacket l (Work l.running) p
+    work-valid = (subst (AllByRecursion (IsValidPacket l (Work l.running))) is (valid-at-place l (Work l.running) x.holds.valid x.runs.there)).0
 
     work-no_fault : is_fault_packet l p ≡ false
-    work-no_fault = false_from_ne_true (is_fault_packet l p) (λ e. (let i : IsFaultPacket (Work l.running) p = work-stands.fault e in let at = i.place in let two : l.running ≡ 2 = cc in absurd (omega (arith, two, x.is))))
+    work-no_fault = false_from_ne_true (is_fault_packet l p) (λ e. (let i : IsFaultPacket (Work l.running) p = work-valid.fault e in let at = i.place in let two : l.running ≡ 2 = cc in absurd (omega (arith, two, x.is))))
 
     pub work-sender : is_key_packet l p ≡ false → has_task p.sender l.tasks ≡ true
-    work-sender no_key = work-stands.sender no_key x.runs.resident
+    work-sender no_key = work-valid.sender no_key x.runs.resident
 
   module _ (is : l.pending ≡ p ∷ ps) where
-    read-stands : MayStand l Pending p
-    read-stands = (subst (AllByRecursion (MayStand l Pending)) is x.holds.valid.queues.pending).0
+    read-valid : IsValidPacket l Pending p
+    read-valid = (subst (AllByRecursion (IsValidPacket l Pending)) is x.holds.valid.queues.pending).0
 
     read-no_key : is_key_packet l p ≡ false
-    read-no_key = false_from_ne_true (is_key_packet l p) (λ e. (let i : IsKeyPacket Pending p = read-stands.key e in i.place))
+    read-no_key = false_from_ne_true (is_key_packet l p) (λ e. (let i : IsKeyPacket Pending p = read-valid.key e in i.place))
 
     read-no_fault : is_fault_packet l p ≡ false
-    read-no_fault = false_from_ne_true (is_fault_packet l p) (λ e. (let i : IsFaultPacket Pending p = read-stands.fault e in let at = i.place in cc))
+    read-no_fault = false_from_ne_true (is_fault_packet l p) (λ e. (let i : IsFaultPacket Pending p = read-valid.fault e in let at = i.place in cc))
 
     pub read-sender : has_task p.sender l.tasks ≡ true
-    read-sender = read-stands.sender read-no_key
+    read-sender = read-valid.sender read-no_key
 
 -- ---- the turn
 

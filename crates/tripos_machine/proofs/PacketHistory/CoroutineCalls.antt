@@ -97,7 +97,7 @@ module _ (s : List ℕ) (l : Lists) (h : HoldsLists s l) (c : HasCaller l) where
       on (Ok u) is =
           let i = idle s t d u is in
           let b = call-again s t r d stood i.known i.alone in
-          (callco-made s l t h g r (called s t r d) _ d v (Ok u) is refl refl b.active b.list b.stand tt).lists.lists.valid
+          (callco-made s l t h g r (called s t r d) _ d v (Ok u) is refl refl b.active b.list b.valid tt).lists.lists.valid
       on (Err e) is = (callco-made s l t h g r s r d v (Err e) is tt tt tt refl stood (refl, refl)).lists.lists.valid
 
   pub resumeco-valid : (r : Regs) (d v : ℕ) → AreValid (resumeco l r d v).lists
@@ -107,13 +107,13 @@ module _ (s : List ℕ) (l : Lists) (h : HoldsLists s l) (c : HasCaller l) where
       again m true same =
           let i = current s t stood m.within in
           let first : active_in s t ≡ d ∷ drop 1 (active_in s t) = i.active ∙ (λ k. eqb-true (current_in s t) d same k ∷ drop 1 (sym i.active k)) in
-          record { list = refl; active = first; stand = stood }
+          record { list = refl; active = first; valid = stood }
       again m false other = replace-again s t r d stood m.within m.known (m.alone other)
 
       on : (o : Result (Unit {0}) CoEnd) → o ≡ resume_answer s t d → AreValid (resumeco l r d v).lists
       on (Ok u) is =
           let b = again (may-resume s t d u is) (eqb (current_in s t) d) refl in
-          (resumeco-made s l t h g r (resumed s t r d) _ d v (Ok u) is refl refl b.active b.list b.stand tt).lists.lists.valid
+          (resumeco-made s l t h g r (resumed s t r d) _ d v (Ok u) is refl refl b.active b.list b.valid tt).lists.lists.valid
       on (Err e) is = (resumeco-made s l t h g r s r d v (Err e) is tt tt tt refl stood (refl, refl)).lists.lists.valid
 
   pub cowait-valid : (r : Regs) (v : ℕ) → AreValid (cowait l r v).lists
@@ -122,13 +122,13 @@ module _ (s : List ℕ) (l : Lists) (h : HoldsLists s l) (c : HasCaller l) where
       on : (o : Result (Unit {0}) CoEnd) → o ≡ wait_answer s t → AreValid (cowait l r v).lists
       on (Ok u) is =
           let b = wait-again s t r.p r.pc stood (may-wait s t u is) in
-          (cowait-made s l t h g r (waited s t r.p r.pc) _ v (Ok u) is refl refl b.active b.list b.stand tt).lists.lists.valid
+          (cowait-made s l t h g r (waited s t r.p r.pc) _ v (Ok u) is refl refl b.active b.list b.valid tt).lists.lists.valid
       on (Err e) is = (cowait-made s l t h g r s r v (Err e) is tt tt tt refl stood (refl, refl)).lists.lists.valid
 
   pub ended-valid : (r : Regs) → IsWithin l → AreValid (ended l r).lists
   ended-valid r within =
       let b = wait-again s t _ _ stood (ended-within s l t h g r within) in
-      (ended-made s l t h g r (returned s t) _ within refl refl b.active b.list b.stand).lists.lists.valid
+      (ended-made s l t h g r (returned s t) _ within refl refl b.active b.list b.valid).lists.lists.valid
 
   -- ---- a coroutine is made
 

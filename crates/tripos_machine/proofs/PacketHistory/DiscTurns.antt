@@ -9,7 +9,7 @@ use Rattle.kernel_model.specs.KernelRecord.Image.{image}
 use Rattle.kernel_model.specs.KernelRecord.Kernel.{Kernel, Mode, Shell}
 use Rattle.kernel_model.specs.KernelRecord.Kernel.Mode.{Prompt, Reading, Typing, Waiting}
 use Rattle.kernel_model.specs.KernelRecord.Lists.{Lists}
-use Rattle.kernel_model.specs.KernelRecord.Standing.{left_with}
+use Rattle.kernel_model.specs.KernelRecord.StoreWithLists.{left_with}
 use Rattle.kernel_model.specs.declared.kernel_record.numbers.TheConstants.{CONSOLE, SHELL_PACKET}
 use Rattle.resident_tasks.specs.ResidentRequests.Answers.{finished}
 use Rattle.resident_tasks.specs.ResidentRequests.Requests.{first_request, request_at, work}
@@ -136,9 +136,9 @@ executed-disc (Release task) x lawful h = answered-disc _ _ h
 executed-disc (ChangePriority task priority) x lawful h = answered-disc _ _ h
 executed-disc (Break task flags) x lawful h = answered-disc _ _ h
 executed-disc (Run program priority) x lawful h =
-    run-disc (start_program x.disc program (Ok tt) (run_priority priority) x.standing).answer (with_started (start_program x.disc program (Ok tt) (run_priority priority) x.standing) x) h
+    run-disc (start_program x.disc program (Ok tt) (run_priority priority) x.store).answer (with_started (start_program x.disc program (Ok tt) (run_priority priority) x.store) x) h
 executed-disc Finish x lawful h = h
-executed-disc (Start program rest) x lawful h = start-disc (start_program x.disc program rest AboveShell x.standing).answer (with_started (start_program x.disc program rest AboveShell x.standing) x) h
+executed-disc (Start program rest) x lawful h = start-disc (start_program x.disc program rest AboveShell x.store).answer (with_started (start_program x.disc program rest AboveShell x.store) x) h
 
 line-disc : (o : Result Command ℕ) (x : ShellTurn) → AreLawful o → On x → On (executed_if o x)
 line-disc (Ok c) x lawful h = executed-disc c x lawful h
@@ -155,17 +155,17 @@ own-disc (Waiting id) r x h = h
 own-disc Typing r x h = typed-disc x h
 
 first-disc : (x : ShellTurn) → On x → On (first_treated x)
-first-disc x h = on (work x.standing.lists)
+first-disc x h = on (work x.store.lists)
   where
     y : ShellTurn
     y = packet_taken x
 
-    on : (ps : List QueuedPacket) → On (treated (first_request y.standing.words ps) y)
+    on : (ps : List QueuedPacket) → On (treated (first_request y.store.words ps) y)
     on [] = h
     on (q ∷ qs) = either (eqb q.address SHELL_PACKET)
       where
         r : Request
-        r = request_at y.standing.words q.address
+        r = request_at y.store.words q.address
 
         either : (b : Bool) → On (cond b (treated_in y.shell.mode r y) (returned_unknown r y))
         either true = own-disc y.shell.mode r y h
@@ -178,7 +178,7 @@ shell-disc s l sh d h = on (work l)
     ended-disc : (x : ShellTurn) → On x → On (ended x)
     ended-disc x h = by x.finished
       where
-        by : (b : Bool) → On (cond b x (and_then (left_with x.standing.words (finished x.standing.lists) []) [] x))
+        by : (b : Bool) → On (cond b x (and_then (left_with x.store.words (finished x.store.lists) []) [] x))
         by true = h
         by false = h
 

@@ -58,9 +58,9 @@ module _ (names : List (List ℕ)) (name : List ℕ) where
       after zero h lt = absurd (omega arith)
       after (suc k) h lt = place.1.after k (omega arith) (omega arith)
 
-  pub name-stands : (used : List ℕ) → AreInOrder (map (name_in names) used) → IsAtSomePlace used
-  name-stands [] order = inr (0, record { within = omega arith; before = λ k h. absurd (omega (arith, h)); after = λ k h lt. absurd (omega (arith, lt)) })
-  name-stands (u ∷ us) order = on (slice_cmp nat_cmp (name_in names u) name) refl (name-stands us order.1)
+  pub name-at-place : (used : List ℕ) → AreInOrder (map (name_in names) used) → IsAtSomePlace used
+  name-at-place [] order = inr (0, record { within = omega arith; before = λ k h. absurd (omega (arith, h)); after = λ k h lt. absurd (omega (arith, lt)) })
+  name-at-place (u ∷ us) order = on (slice_cmp nat_cmp (name_in names u) name) refl (name-at-place us order.1)
     where
       on : (o : Ordering) → slice_cmp nat_cmp (name_in names u) name ≡ o → IsAtSomePlace us → IsAtSomePlace (u ∷ us)
       on Less e more = further u us (is_before-cmp (name_in names u) name e) more

@@ -7,9 +7,9 @@ use Rattle.kernel_model.specs.KernelRecord.Changes.{with_queue}
 use Rattle.kernel_model.specs.KernelRecord.HoldsLists.{HoldsLists}
 use Rattle.kernel_model.specs.KernelRecord.Lists.{Lists, address_of_task}
 use Rattle.kernel_model.specs.KernelRecord.ValidLists.{AreValid}
-use Rattle.kernel_model.specs.KernelRecord.ValidQueues.{MayStand}
+use Rattle.kernel_model.specs.KernelRecord.ValidQueues.{IsValidPacket}
 use Rattle.kernel_model.specs.KernelRecord.ValidQueues.Place.{Work}
-use Rattle.kernel_model.proofs.KernelRecord.QueuePlaces.{place-stands}
+use Rattle.kernel_model.proofs.KernelRecord.QueuePlaces.{valid-at-place}
 use Rattle.kernel_calls.specs.PacketCalls.Destinations.{queue_for}
 use Rattle.kernel_calls.specs.PacketCalls.QueueWords.{unqueued}
 use Rattle.resident_tasks.specs.ResidentRequests.Answers.{answered, finished, returned}
@@ -40,8 +40,8 @@ request-valid serve s l h t = on (work l) refl t.foreign
         let r : Request = request_at z p.address in
         let m : Lists = with_queue (Work l.running) ps l in
         let answer : Result ℕ ℕ = (serve z m r).answer in
-        let stands : MayStand l (Work l.running) p = (subst (AllByRecursion (MayStand l (Work l.running))) is (place-stands l (Work l.running) h.valid t.runs.there)).0 in
-        let from = stands.sender foreign.0 t.runs.resident in
+        let valid-packet : IsValidPacket l (Work l.running) p = (subst (AllByRecursion (IsValidPacket l (Work l.running))) is (valid-at-place l (Work l.running) h.valid t.runs.there)).0 in
+        let from = valid-packet.sender foreign.0 t.runs.resident in
         let back : Lists = (returned m r answer).lists in
         let valid : AreValid back = returned-valid s l h (Work l.running) p ps is foreign.0 foreign.1 from t.runs answer in
         subst (λ y. AreValid (answered (taken_from y l).lists r answer).lists) (sym is)

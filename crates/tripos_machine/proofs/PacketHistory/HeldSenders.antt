@@ -35,8 +35,8 @@ module _ (s : List ℕ) (l : Lists) (h : HoldsLists s l) where
       on [] is = tt
       on (p ∷ ps) is = subst (AreSenders s) is (held-senders at (place-there l at [] p ps h.valid is))
 
-pub stands-senders : (k : Kernel) → HasValidImage k → HoldSenders k
-stands-senders k stands at has = place-senders _ k.lists (image-holds k stands) at
+pub image-senders : (k : Kernel) → HasValidImage k → HoldSenders k
+image-senders k with-image at has = place-senders _ k.lists (image-holds k with-image) at
 
 pub valid-senders : (k : Kernel) → IsValid k → HoldSenders k
-valid-senders k valid = stands-senders k (record { lists = valid.lists; plain = valid.plain })
+valid-senders k valid = image-senders k (record { lists = valid.lists; plain = valid.plain })

@@ -18,7 +18,7 @@ use Rattle.tripos_machine.proofs.PacketHistory.Moves.{move-none}
 use Rattle.tripos_machine.proofs.PacketHistory.ResidentTurns.{step-turn-valid}
 use Rattle.tripos_machine.specs.PacketHistory.HistoryLaw.{HistoryLaw, StepLaw}
 use Rattle.tripos_machine.specs.PacketHistory.Steps.{EachStep, StepMoves, due_in}
-use Rattle.tripos_machine.proofs.PacketHistory.HeldSenders.{stands-senders, valid-senders}
+use Rattle.tripos_machine.proofs.PacketHistory.HeldSenders.{image-senders, valid-senders}
 use Rattle.tripos_machine.proofs.PacketHistory.PartEvents.{dispatch-accepts, dispatch-takes, key-returns, key-takes, output-returns, output-takes, step-parts, tick-returns, tick-takes}
 use Rattle.tripos_machine.proofs.PacketHistory.PlainWords.{HasValidImage, image-holds, key-left, output-left, plain-like, tick-left, turn-left}
 use Rattle.tripos_machine.proofs.PacketHistory.Runs.{history-events, run-history}
@@ -54,19 +54,19 @@ module _ (k : Kernel) (valid : IsValid k) (goes : k.stop ≡ None) where
   output_part = output keyboard_part.kernel
 
   part-holds : (j : Kernel) (x : Stepped) → HasValidImage j → (HoldsLists (image j) j.lists → AllByRecursion (HasSender (image j)) x.events) → PartHolds j x
-  part-holds j x stands taken = record { queued = stands-senders j stands; taken = taken (image-holds j stands) }
+  part-holds j x with-image taken = record { queued = image-senders j with-image; taken = taken (image-holds j with-image) }
 
-  turned-stands : HasValidImage turn_part.kernel
-  turned-stands = (let v = step-turn-valid k valid goes in record { lists = v; plain = turn-left (with_step k) (plain-like k (with_step k) valid.plain refl refl) v })
+  turned-valid : HasValidImage turn_part.kernel
+  turned-valid = (let v = step-turn-valid k valid goes in record { lists = v; plain = turn-left (with_step k) (plain-like k (with_step k) valid.plain refl refl) v })
 
-  ticked-stands : HasValidImage clock_part.kernel
-  ticked-stands = (let v = (tick-moved (λ e. 0) turn_part.kernel turned-stands.lists).valid in record { lists = v; plain = tick-left turn_part.kernel turned-stands.plain v })
+  ticked-valid : HasValidImage clock_part.kernel
+  ticked-valid = (let v = (tick-moved (λ e. 0) turn_part.kernel turned-valid.lists).valid in record { lists = v; plain = tick-left turn_part.kernel turned-valid.plain v })
 
-  typed-stands : HasValidImage keyboard_part.kernel
-  typed-stands = (let v = (key-moved (λ e. 0) clock_part.kernel ticked-stands.lists).valid in record { lists = v; plain = key-left clock_part.kernel v })
+  typed-valid : HasValidImage keyboard_part.kernel
+  typed-valid = (let v = (key-moved (λ e. 0) clock_part.kernel ticked-valid.lists).valid in record { lists = v; plain = key-left clock_part.kernel v })
 
-  printed-stands : HasValidImage output_part.kernel
-  printed-stands = (let v = (output-moved (λ e. 0) keyboard_part.kernel typed-stands.lists).valid in record { lists = v; plain = output-left keyboard_part.kernel v })
+  printed-valid : HasValidImage output_part.kernel
+  printed-valid = (let v = (output-moved (λ e. 0) keyboard_part.kernel typed-valid.lists).valid in record { lists = v; plain = output-left keyboard_part.kernel v })
 
   step-holds : StepHolds k
   step-holds =
@@ -76,10 +76,10 @@ module _ (k : Kernel) (valid : IsValid k) (goes : k.stop ≡ None) where
             part-holds k turn_part (record { lists = valid.lists; plain = valid.plain })
             (λ h. first-senders (image k) (due_in k) (signed k.lists.running) turn_part.events (ledger_of k.lists) (ledger_of turn_part.kernel.lists) (ledger-senders (image k) k.lists h) m.takes
             (m.turn.sent None) m.moves);
-        clock = part-holds turn_part.kernel clock_part turned-stands (tick-senders turn_part.kernel);
-        keyboard = part-holds clock_part.kernel keyboard_part ticked-stands (key-senders clock_part.kernel);
-        output = part-holds keyboard_part.kernel output_part typed-stands (output-senders keyboard_part.kernel);
-        dispatch = part-holds output_part.kernel (dispatch output_part.kernel) printed-stands (dispatch-senders output_part.kernel);
+        clock = part-holds turn_part.kernel clock_part turned-valid (tick-senders turn_part.kernel);
+        keyboard = part-holds clock_part.kernel keyboard_part ticked-valid (key-senders clock_part.kernel);
+        output = part-holds keyboard_part.kernel output_part typed-valid (output-senders keyboard_part.kernel);
+        dispatch = part-holds output_part.kernel (dispatch output_part.kernel) printed-valid (dispatch-senders output_part.kernel);
       }
 
 step-law : (k : Kernel) → IsValid k → IsValid (step k).kernel → k.stop ≡ None → StepLaw k

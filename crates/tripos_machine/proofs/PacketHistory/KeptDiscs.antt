@@ -11,10 +11,10 @@ use Rattle.std.proofs.lemmas.List.FromFn.{get_or-map-range_with_len, length-map-
 use Rattle.word_store.specs.Count.{times}
 use Rattle.word_store.proofs.Counts.{range-apart, range-high, range-low, times-above, times-below, times-within}
 use Rattle.ram_disc.specs.Contents.{Area, bytes_at}
-use Rattle.ram_disc.specs.Disc.{AreInOrder, Disc, File, IsDisc, StandsOn, Stream, bytes_of, has_name, most_files, most_sectors, sectors_taken, stream_at}
+use Rattle.ram_disc.specs.Disc.{AreInOrder, Disc, File, IsDisc, IsValidStream, Stream, bytes_of, has_name, most_files, most_sectors, sectors_taken, stream_at}
 use Rattle.ram_disc.specs.DiscCalls.{file}
 use Rattle.ram_disc.specs.Name.{IsName}
-use Rattle.ram_disc.specs.Slots.{AreKept, StandsAt, disc_in, file_in, files_in, name_in, stream_in, streams_in}
+use Rattle.ram_disc.specs.Slots.{AreKept, IsValidPlace, disc_in, file_in, files_in, name_in, stream_in, streams_in}
 use Rattle.ram_disc.specs.declared.places.Place.{Place}
 use Rattle.ram_disc.proofs.FileLists.{find-name}
 use Rattle.ram_disc.proofs.NameOrder.{all-get_or}
@@ -112,7 +112,7 @@ module _ (d : Disc) (h : IsDisc d) where
       λ i. cond (ne_eqb (suc k) 0 (λ e. absurd (omega (arith, e))) i) None (get_or d.streams (before i) None)
 
   found : (k : ℕ) (s : Stream) → get_or d.streams k None ≡ Some s → (slot_of d.files s.name < n) × ((get_or d.files (slot_of d.files s.name) no_file).name ≡ s.name)
-  found k s e = slot-found d.files s.name no_file (h.stand (suc k) s (stream-number k ∙ e)).is_there
+  found k s e = slot-found d.files s.name no_file (h.streams (suc k) s (stream-number k ∙ e)).is_there
 
   stream-name : (k : ℕ) (s : Stream) → get_or d.streams k None ≡ Some s → name_in names (slot_of d.files s.name) ≡ s.name
   stream-name k s e = (let r = found k s e in padded-there (λ f. f.name) (slot_of d.files s.name) r.0 ∙ r.1)
@@ -147,19 +147,19 @@ module _ (d : Disc) (h : IsDisc d) where
       padded-there (λ f. f.bytes) (slot_of d.files name) lt
       ∙ sym (ap (λ o. unwrap_or (option_map (λ (f : File). f.bytes) o) []) (find-name name no_file d.files (slot_of d.files name) h.in_order lt is))
 
-  stands : (k : ℕ) (p : Place) → get_or places k None ≡ Some p → StandsAt area used places k p
-  stands k p e =
+  valid-places : (k : ℕ) (p : Place) → get_or places k None ≡ Some p → IsValidPlace area used places k p
+  valid-places k p e =
       let r = place-stream k p e in
       subst (λ o. Is o) r.2 (there r.0 r.1)
     where
       Is : Option Place → Type 0
       Is None = Unit {0}
-      Is (Some q) = StandsAt area used places k q
+      Is (Some q) = IsValidPlace area used places k q
 
       there : (s : Stream) → get_or d.streams k None ≡ Some s → Is (place_of d.files (Some s))
       there s is =
           let f = found k s is in
-          let on : StandsOn d (suc k) s = h.stand (suc k) s (stream-number k ∙ is) in
+          let on : IsValidStream d (suc k) s = h.streams (suc k) s (stream-number k ∙ is) in
           let same : bytes_at area (slot_of d.files s.name) ≡ bytes_of d s.name = file-bytes s.name f.0 f.1 in
           record {
             is_there = omega (arith, times-within (slot_of d.files s.name) 0 n (omega arith) (omega (arith, f.0)));
@@ -223,7 +223,7 @@ module _ (d : Disc) (h : IsDisc d) where
                     room = omega (arith, ap sectors_taken files-same, h.room);
                   };
               numbers = length-map d.streams (place_of d.files) ∙ h.numbers;
-              stand = stands;
+              streams = valid-places;
             };
         is = λ i. record { files = files-same i; streams = streams-same i };
       }

@@ -10,7 +10,7 @@ use Rattle.kernel_calls.specs.CallAnswers.Made.{Made, by_refusal, unless_refused
 use Rattle.kernel_calls.specs.CallAnswers.Refusals.{first_refusal}
 use Rattle.resident_tasks.specs.ConsoleHandler.Progress.{settled_words}
 use Rattle.resident_tasks.proofs.ConsoleHandler.DoneParts.{settled-words}
-use Rattle.shell.specs.ShellPrograms.Standings.{left_by}
+use Rattle.shell.specs.ShellPrograms.StoresWithLists.{left_by}
 
 module _ (s : List ℕ) (m : Lists) (plain : Pairs) (v : AreValid m) (size : length s ≡ m.size) where
   abbrev left : List ℕ

@@ -6,7 +6,7 @@ use Rattle.kernel_model.specs.KernelRecord.Changes.{with_task, with_tasks}
 use Rattle.kernel_model.specs.KernelRecord.Lists.{Lists}
 use Rattle.kernel_model.specs.KernelRecord.Task.{Task, is_guest_id}
 use Rattle.kernel_model.specs.KernelRecord.ValidLists.{AreValid}
-use Rattle.kernel_model.specs.KernelRecord.ValidTasks.{CoroutinesStand, IsField, IsTask}
+use Rattle.kernel_model.specs.KernelRecord.ValidTasks.{AreValidCoroutines, IsField, IsTask}
 use Rattle.kernel_model.proofs.KernelRecord.AllThings.{all-here}
 use Rattle.kernel_model.proofs.KernelRecord.OneTask.{same_task-valid}
 use Rattle.kernel_calls.specs.CallAnswers.Guests.{GuestAt}
@@ -18,11 +18,11 @@ abbrev pub in_state : ℕ → ℕ → Bool → Task → Task
 in_state field flags held t = record t { field = field; flags = flags; held = held }
 
 module _ (l : Lists) (id address : ℕ) (v : AreValid l) (g : GuestAt l id address) where
-  pub guest-stands : IsTask l g.task
-  guest-stands = all-here (IsTask l) g.front g.task g.back (subst (AllByRecursion (IsTask l)) g.is v.tasks.each)
+  pub guest-valid : IsTask l g.task
+  guest-valid = all-here (IsTask l) g.front g.task g.back (subst (AllByRecursion (IsTask l)) g.is v.tasks.each)
 
-  coroutines : CoroutinesStand l g.task
-  coroutines = all-here (CoroutinesStand l) g.front g.task g.back (subst (AllByRecursion (CoroutinesStand l)) g.is v.coroutines)
+  coroutines : AreValidCoroutines l g.task
+  coroutines = all-here (AreValidCoroutines l) g.front g.task g.back (subst (AllByRecursion (AreValidCoroutines l)) g.is v.coroutines)
 
   guest : is_guest_id g.task.id ≡ true
   guest = ap is_guest_id g.number ∙ accepted-guest l id address g
@@ -35,7 +35,7 @@ module _ (l : Lists) (id address : ℕ) (v : AreValid l) (g : GuestAt l id addre
     where
       task : IsTask l (in_state field flags held g.task)
       task =
-          let t : IsTask l g.task = guest-stands in
+          let t : IsTask l g.task = guest-valid in
           record {
             low = t.low;
             high = t.high;

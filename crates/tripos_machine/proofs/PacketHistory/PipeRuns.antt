@@ -139,8 +139,8 @@ run-requests (suc n) k =
     ∙ sym (after-both k.pipes (requests_of_step k) (requests_of_run n (step k).kernel))
 
 pub run-bytes : (n i : ℕ) (k : Kernel) (h : History) → IsHistoryOf h (pipe_at k.pipes i) → IsHistoryOf (history_after i k.pipes h (requests_of_run n k)) (pipe_at (run n k).kernel.pipes i)
-run-bytes n i k h stands =
-    subst (λ ps. IsHistoryOf (history_after i k.pipes h (requests_of_run n k)) (pipe_at ps i)) (sym (run-requests n k)) (pipe-bytes k.pipes i h (requests_of_run n k) stands)
+run-bytes n i k h is-history =
+    subst (λ ps. IsHistoryOf (history_after i k.pipes h (requests_of_run n k)) (pipe_at ps i)) (sym (run-requests n k)) (pipe-bytes k.pipes i h (requests_of_run n k) is-history)
 
 pub run-room : (n i : ℕ) (k : Kernel) (p : Pipe) → IsValid k → pipe_at (run n k).kernel.pipes i ≡ Some p → length p.held ≤ most_held
 run-room n i k p valid is = pipe-room k.pipes i (requests_of_run n k) p valid.residents.pipes.pipes (ap (λ ps. pipe_at ps i) (sym (run-requests n k)) ∙ is)

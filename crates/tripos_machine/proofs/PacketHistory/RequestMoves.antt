@@ -8,9 +8,9 @@ use Rattle.kernel_lists.specs.declared.packet_queue.events.KernelEvent.TheVarian
 use Rattle.kernel_model.specs.KernelRecord.Changes.{with_queue}
 use Rattle.kernel_model.specs.KernelRecord.HoldsLists.{HoldsLists}
 use Rattle.kernel_model.specs.KernelRecord.Lists.{Lists}
-use Rattle.kernel_model.specs.KernelRecord.ValidQueues.{MayStand}
+use Rattle.kernel_model.specs.KernelRecord.ValidQueues.{IsValidPacket}
 use Rattle.kernel_model.specs.KernelRecord.ValidQueues.Place.{Work}
-use Rattle.kernel_model.proofs.KernelRecord.QueuePlaces.{place-stands}
+use Rattle.kernel_model.proofs.KernelRecord.QueuePlaces.{valid-at-place}
 use Rattle.kernel_calls.specs.PacketCalls.Destinations.{queue_for}
 use Rattle.kernel_calls.specs.PacketCalls.QueueWords.{unqueued}
 use Rattle.kernel_calls.specs.PacketCalls.TaskWait.{waiting}
@@ -52,9 +52,9 @@ request-moves due serve s l h t = on (work l) refl t.foreign
         let r : Request = request_at z p.address in
         let m : Lists = with_queue (Work l.running) ps l in
         let answer : Result ℕ ℕ = (serve z m r).answer in
-        let stands : MayStand l (Work l.running) p = (subst (AllByRecursion (MayStand l (Work l.running))) is (place-stands l (Work l.running) h.valid t.runs.there)).0 in
+        let valid-packet : IsValidPacket l (Work l.running) p = (subst (AllByRecursion (IsValidPacket l (Work l.running))) is (valid-at-place l (Work l.running) h.valid t.runs.there)).0 in
         let back : Lists = (returned m r answer).lists in
         subst (λ qs. MovesInTurn due (signed l.running) l ((taken_from qs l).events ++ (answered (taken_from qs l).lists r answer).events) (answered (taken_from qs l).lists r answer).lists) (sym is)
         (same-moved due (signed l.running) l back (finished back) (Taken (signed l.running) p.address (signed p.sender) ∷ (returned m r answer).events) (finished-same back)
         (returned-moves due (signed l.running) s l h (Work l.running) p ps is (low-named l.running low.high) (signed l.running) (signed-low l.running low.high) (low-clock l.running low.high)
-        (stands.sender foreign.0 t.runs.resident) refl refl answer))
+        (valid-packet.sender foreign.0 t.runs.resident) refl refl answer))

@@ -10,7 +10,7 @@ use Rattle.kernel_lists.specs.HunkLoader.ModuleExchanges.{hunk_words}
 use Rattle.kernel_model.specs.KernelRecord.HoldsLists.{HoldsLists}
 use Rattle.kernel_model.specs.KernelRecord.Lists.{Lists}
 use Rattle.kernel_model.specs.KernelRecord.Running.{RunsAlive}
-use Rattle.kernel_model.specs.KernelRecord.Standing.{Standing}
+use Rattle.kernel_model.specs.KernelRecord.StoreWithLists.{StoreWithLists}
 use Rattle.kernel_model.specs.declared.kernel_record.numbers.TheConstants.{SHELL}
 use Rattle.kernel_calls.specs.CallAnswers.Guests.{guest_tests}
 use Rattle.kernel_calls.specs.CallAnswers.Made.{Made, by_refusal}
@@ -23,7 +23,7 @@ use Rattle.kernel_calls.specs.ModuleCalls.UnloadModule.{unload_module, unload_te
 use Rattle.kernel_boot.specs.BegunTask.{begun as begun_task}
 use Rattle.kernel_boot.specs.BootTasks.{load_text}
 use Rattle.shell.specs.ShellPrograms.ClearedTasks.{cleared}
-use Rattle.shell.specs.ShellPrograms.Standings.{left_by}
+use Rattle.shell.specs.ShellPrograms.StoresWithLists.{left_by}
 use Rattle.shell.specs.ShellPrograms.StartedProgram.{after_creation, after_loading, begun, creation, load_found, load_program, priority_of, program_stack, start_program}
 use Rattle.shell.specs.declared.shell_programs.programs.Priority.{Priority}
 use Rattle.shell.proofs.RunningShell.{made-events}
@@ -44,7 +44,7 @@ unload-same l m = quiet-same l (unload_module l m) (made-events (first_refusal (
 delete-same : (s : List ℕ) (l : Lists) (id : ℕ) → HoldsLists s l → ledger_of (delete_task l id).lists ≡ ledger_of l
 delete-same s l id h = quiet-same l (delete_task l id) (made-events (first_refusal (guest_tests l id ++ deletion_tests l id)) l (without_task l id)) (delete_task-quiet (λ e. 0) l h.valid id).0
 
-pub cleared-same : (k : Standing) → HoldsLists k.words k.lists → RunsAlive k.lists → ledger_of (cleared k).lists ≡ ledger_of k.lists
+pub cleared-same : (k : StoreWithLists) → HoldsLists k.words k.lists → RunsAlive k.lists → ledger_of (cleared k).lists ≡ ledger_of k.lists
 cleared-same k h alive =
     (all-cleared (λ j. HoldsLists j.words j.lists × (ledger_of j.lists ≡ ledger_of k.lists)) (λ id j low a x. (deleted-holds id j a x.0, delete-same j.words j.lists id x.0 ∙ x.1))
     (λ m j x. (unloaded-holds m j x.0, unload-same j.lists m ∙ x.1)) k alive (h, refl)).1
@@ -64,7 +64,7 @@ load-same l (Some bytes) (Ok u) = on (module_of bytes)
         by None = beside-quiet l (with_loaded m.hunks l) refl refl refl refl refl
         by (Some code) = refl
 
-creation-same : (pri : Priority) (m : ℕ) (k : Standing) → ledger_of (creation pri m k).lists ≡ ledger_of k.lists
+creation-same : (pri : Priority) (m : ℕ) (k : StoreWithLists) → ledger_of (creation pri m k).lists ≡ ledger_of k.lists
 creation-same pri m k = quiet-same k.lists (creation pri m k) (none (first_refusal (creation_tests k.words k.lists 0 (m ∷ []) program_stack p))) (create_task-quiet (λ e. 0) k.lists k.words (m ∷ []) program_stack p SHELL).0
   where
     p : ℕ
@@ -74,11 +74,11 @@ creation-same pri m k = quiet-same k.lists (creation pri m k) (none (first_refus
     none None = refl
     none (Some code) = refl
 
-pub started-same : (d : Disc) (name : List ℕ) (rest : Result (Unit {0}) ℕ) (pri : Priority) (k : Standing) → ledger_of (start_program d name rest pri k).left.lists ≡ ledger_of k.lists
+pub started-same : (d : Disc) (name : List ℕ) (rest : Result (Unit {0}) ℕ) (pri : Priority) (k : StoreWithLists) → ledger_of (start_program d name rest pri k).left.lists ≡ ledger_of k.lists
 unfolding start_program
 started-same d name rest pri k = on (load_program d name rest k.lists).answer
   where
-    j : Standing
+    j : StoreWithLists
     j = left_by k.words (load_program d name rest k.lists)
 
     loaded : ledger_of j.lists ≡ ledger_of k.lists
@@ -92,5 +92,5 @@ started-same d name rest pri k = on (load_program d name rest k.lists).answer
     on (Ok m) = after (creation pri m j).answer m
     on (Err code) = loaded
 
-pub begun-same : (id : ℕ) (k : Standing) → ledger_of (begun id k).lists ≡ ledger_of k.lists
+pub begun-same : (id : ℕ) (k : StoreWithLists) → ledger_of (begun id k).lists ≡ ledger_of k.lists
 begun-same id k = ledger-task k.lists id (begun_task k.lists.version k.words) (λ t. (refl, refl))

@@ -9,7 +9,7 @@ use Rattle.kernel_lists.specs.declared.packet_queue.events.KernelEvent.TheVarian
 use Rattle.kernel_model.specs.KernelRecord.HoldsLists.{HoldsLists}
 use Rattle.kernel_model.specs.KernelRecord.Kernel.{Shell}
 use Rattle.kernel_model.specs.KernelRecord.Lists.{Lists, has_task}
-use Rattle.kernel_model.specs.KernelRecord.Standing.{Standing, standing}
+use Rattle.kernel_model.specs.KernelRecord.StoreWithLists.{StoreWithLists, store_with_lists}
 use Rattle.kernel_model.specs.KernelRecord.ValidLists.{AreValid}
 use Rattle.kernel_model.specs.KernelRecord.ValidQueues.Place.{Work}
 use Rattle.kernel_model.specs.declared.kernel_record.numbers.TheConstants.{SHELL, SHELL_PACKET}
@@ -51,18 +51,18 @@ module _ (due : KernelEvent → ℕ) (b : Lists) where
   abbrev Led : List KernelEvent → Lists → Type 0
   Led es l = MovesInTurn due (signed SHELL) b es l
 
-  record HasBegun (k : Standing) (es : List KernelEvent) : Type 0 where
+  record HasBegun (k : StoreWithLists) (es : List KernelEvent) : Type 0 where
     shell : IsShell k es
     led : Led es k.lists
     none : es ≡ []
 
-  record HasLed (k : Standing) (es : List KernelEvent) : Type 0 where
+  record HasLed (k : StoreWithLists) (es : List KernelEvent) : Type 0 where
     own : HasOwn k es
     led : Led es k.lists
 
   -- ---- the first packet
 
-  module _ (p : QueuedPacket) (ps : List QueuedPacket) (k : Standing) (es : List KernelEvent) (is : work k.lists ≡ p ∷ ps) (x : HasBegun k es) where
+  module _ (p : QueuedPacket) (ps : List QueuedPacket) (k : StoreWithLists) (es : List KernelEvent) (is : work k.lists ≡ p ∷ ps) (x : HasBegun k es) where
     abbrev l : Lists
     l = k.lists
 
@@ -89,7 +89,7 @@ module _ (due : KernelEvent → ℕ) (b : Lists) where
   -- ---- its own
 
   -- it is sent
-  posted-led : (to : ℕ) (k : Standing) (es : List KernelEvent) → to ≤ 63 → has_task to k.lists.tasks ≡ true → AreValid k.lists → HasPacket k.lists → Led es k.lists → Led (es ++ post_events to) (posted to k).lists
+  posted-led : (to : ℕ) (k : StoreWithLists) (es : List KernelEvent) → to ≤ 63 → has_task to k.lists.tasks ≡ true → AreValid k.lists → HasPacket k.lists → Led es k.lists → Led (es ++ post_events to) (posted to k).lists
   posted-led to k es low there v packet led =
       let l : Lists = k.lists in
       let p : QueuedPacket = sent_packet k.words l (Work to) SHELL_PACKET SHELL in
@@ -105,7 +105,7 @@ module _ (due : KernelEvent → ℕ) (b : Lists) where
       (tt, tt)
 
   -- a call about a task
-  called-led : (k : Standing) (es : List KernelEvent) (m : Made) → k.lists.running ≡ SHELL → m.events ≡ [] → Moves due k.lists m.events m.lists × AreOfTurn (signed k.lists.running) m.events × TakesFirst m.events
+  called-led : (k : StoreWithLists) (es : List KernelEvent) (m : Made) → k.lists.running ≡ SHELL → m.events ≡ [] → Moves due k.lists m.events m.lists × AreOfTurn (signed k.lists.running) m.events × TakesFirst m.events
       → Led es k.lists
       → Led (es ++ m.events) m.lists
   called-led k es m is none quiet led =
@@ -142,7 +142,7 @@ module _ (due : KernelEvent → ℕ) (b : Lists) where
           led = called-led k es (change_pri k.lists id pri) x.own.shell.is (made-events (first_refusal (guest_tests k.lists id ++ priority_tests k.lists id pri)) k.lists (with_new_priority id pri k.lists)) (change_pri-quiet due k.lists x.own.shell.well.holds.valid id pri) x.led;
         };
         at_flags = λ id flags k es x. record { own = shell-allows.at_flags id flags k es x.own; led = called-led k es (set_flags k.lists id flags) x.own.shell.is (made-events (first_refusal (guest_tests k.lists id)) k.lists (with_task id (flagged flags) k.lists)) (set_flags-quiet due k.lists id flags) x.led };
-        at_request = λ to kind k es low there x. posted-led to (standing (written (request_words kind) k.words) k.lists) es low there x.own.shell.well.holds.valid x.own.packet x.led;
+        at_request = λ to kind k es low there x. posted-led to (store_with_lists (written (request_words kind) k.words) k.lists) es low there x.own.shell.well.holds.valid x.own.packet x.led;
         at_going_on = λ k es x. posted-led SHELL k es (omega arith) x.own.packet.shell x.own.shell.well.holds.valid x.own.packet x.led;
         at_finish = λ k es x. x.led;
         at_stop = λ k es x. x;
@@ -150,8 +150,8 @@ module _ (due : KernelEvent → ℕ) (b : Lists) where
       }
 
 pub shell-moves : (due : KernelEvent → ℕ) (s : List ℕ) (l : Lists) (sh : Shell) (d : Disc) → HoldsLists s l → RunsResident l → l.running ≡ SHELL
-    → MovesInTurn due (signed l.running) l (shell_turn s l sh d).events (shell_turn s l sh d).standing.lists
+    → MovesInTurn due (signed l.running) l (shell_turn s l sh d).events (shell_turn s l sh d).store.lists
 shell-moves due s l sh d h r is =
-    subst (λ n. MovesInTurn due (signed n) l (shell_turn s l sh d).events (shell_turn s l sh d).standing.lists) (sym is)
+    subst (λ n. MovesInTurn due (signed n) l (shell_turn s l sh d).events (shell_turn s l sh d).store.lists) (sym is)
     (turn-done (HasBegun due l) (HasLed due l) (λ k es. Led due l es k.lists) (λ m es. Led due l es m) (shell-leads due l) s l sh d
     (record { shell = record { well = record { holds = h; runs = r }; is = is }; led = none-moved due (signed SHELL) l l refl; none = refl }))

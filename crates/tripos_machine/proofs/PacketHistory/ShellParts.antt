@@ -13,7 +13,7 @@ use Rattle.kernel_model.specs.KernelRecord.Changes.{with_queue}
 use Rattle.kernel_model.specs.KernelRecord.Kernel.{Mode, Shell}
 use Rattle.kernel_model.specs.KernelRecord.Kernel.Mode.{Prompt, Reading, Typing, Waiting}
 use Rattle.kernel_model.specs.KernelRecord.Lists.{Lists, has_task}
-use Rattle.kernel_model.specs.KernelRecord.Standing.{Standing, left_with, standing}
+use Rattle.kernel_model.specs.KernelRecord.StoreWithLists.{StoreWithLists, left_with, store_with_lists}
 use Rattle.kernel_model.specs.KernelRecord.ValidQueues.{HasGuest}
 use Rattle.kernel_model.specs.KernelRecord.ValidQueues.Place.{Work}
 use Rattle.kernel_model.specs.declared.kernel_record.numbers.TheConstants.{CONSOLE, SHELL, SHELL_PACKET}
@@ -37,7 +37,7 @@ use Rattle.shell.specs.ShellListings.NumberLines.{error_line, task_number_line}
 use Rattle.shell.specs.ShellListings.TaskLines.{task_lines}
 use Rattle.shell.specs.ShellPrograms.ClearedTasks.{cleared}
 use Rattle.shell.specs.ShellPrograms.ShellPacket.{post_events, posted, requested}
-use Rattle.shell.specs.ShellPrograms.Standings.{left_by}
+use Rattle.shell.specs.ShellPrograms.StoresWithLists.{left_by}
 use Rattle.shell.specs.ShellPrograms.StartedProgram.{begun, start_program}
 use Rattle.shell.specs.declared.shell_programs.programs.Priority.{Priority}
 use Rattle.shell.specs.declared.shell_programs.programs.Priority.TheVariants.{AboveShell}
@@ -49,52 +49,52 @@ use Rattle.shell.specs.TurnParts.{ShellTurn, and_then, begun as turn_begun, call
 use Rattle.shell.specs.TypedFiles.{goes_on, is_typed, opened, typed, typed_if, with_piece, with_stream_closed}
 
 -- the lists once the first packet was taken, the store that this leaves, and the event
-abbrev pub without_first : List QueuedPacket → Standing → Lists
+abbrev pub without_first : List QueuedPacket → StoreWithLists → Lists
 without_first ps k = with_queue (Work k.lists.running) ps k.lists
 
-abbrev pub after_first : QueuedPacket → List QueuedPacket → Standing → Standing
+abbrev pub after_first : QueuedPacket → List QueuedPacket → StoreWithLists → StoreWithLists
 after_first p ps k = left_with k.words (without_first ps k) ((p.address, no_queue) ∷ [])
 
-abbrev pub first_event : QueuedPacket → Standing → KernelEvent
+abbrev pub first_event : QueuedPacket → StoreWithLists → KernelEvent
 first_event p k = Taken (signed k.lists.running) p.address (signed p.sender)
 
 -- the packet comes back to its sender
-abbrev pub sent_back : QueuedPacket → List QueuedPacket → Standing → Made
+abbrev pub sent_back : QueuedPacket → List QueuedPacket → StoreWithLists → Made
 sent_back p ps k = returned (without_first ps k) (request_at (after_first p ps k).words p.address) (Err UNKNOWN_TYPE)
 
 -- Before it takes a packet the shell clears up. It has its own packet once it has taken it, and returns any other. It goes on having it
 -- where a program is started, or refused, and begins, and at each call about a task. It sends it as a request to a task that is there, or
 -- as it is to itself; or it finishes the machine, and keeps it. Then its turn ends, or stops.
-pub record Allows (Before Has Sent : Standing → List KernelEvent → Type 0) (After : Lists → List KernelEvent → Type 0) : Type 0 where
-  pub at_clearing : (k : Standing) (es : List KernelEvent) → Before k es → Before (cleared k) (es ++ [])
-  pub at_waiting : (k : Standing) (es : List KernelEvent) → Before k es → Sent k es
-  pub at_none : (k : Standing) (es : List KernelEvent) → Before k es → Sent (left_with k.words k.lists []) (es ++ [])
-  pub at_own : (p : QueuedPacket) (ps : List QueuedPacket) (k : Standing) (es : List KernelEvent) → work k.lists ≡ p ∷ ps → p.address ≡ SHELL_PACKET → Before k es
+pub record Allows (Before Has Sent : StoreWithLists → List KernelEvent → Type 0) (After : Lists → List KernelEvent → Type 0) : Type 0 where
+  pub at_clearing : (k : StoreWithLists) (es : List KernelEvent) → Before k es → Before (cleared k) (es ++ [])
+  pub at_waiting : (k : StoreWithLists) (es : List KernelEvent) → Before k es → Sent k es
+  pub at_none : (k : StoreWithLists) (es : List KernelEvent) → Before k es → Sent (left_with k.words k.lists []) (es ++ [])
+  pub at_own : (p : QueuedPacket) (ps : List QueuedPacket) (k : StoreWithLists) (es : List KernelEvent) → work k.lists ≡ p ∷ ps → p.address ≡ SHELL_PACKET → Before k es
       → Has (after_first p ps k) (es ++ first_event p k ∷ [])
-  pub at_other : (p : QueuedPacket) (ps : List QueuedPacket) (k : Standing) (es : List KernelEvent) → work k.lists ≡ p ∷ ps → Before k es
+  pub at_other : (p : QueuedPacket) (ps : List QueuedPacket) (k : StoreWithLists) (es : List KernelEvent) → work k.lists ≡ p ∷ ps → Before k es
       → Sent (left_by (after_first p ps k).words (sent_back p ps k)) ((es ++ first_event p k ∷ []) ++ (sent_back p ps k).events)
-  pub console : (k : Standing) (es : List KernelEvent) → Has k es → has_task CONSOLE k.lists.tasks ≡ true
-  pub at_start : (d : Disc) (name : List ℕ) (rest : Result (Unit {0}) ℕ) (pri : Priority) (k : Standing) (es : List KernelEvent) → Has k es → Has (start_program d name rest pri k).left (es ++ [])
-  pub at_beginning : (id : ℕ) (k : Standing) (es : List KernelEvent) → HasGuest k.lists id → Has k es → Has (begun id k) (es ++ [])
-  pub at_hold : (id : ℕ) (k : Standing) (es : List KernelEvent) → Has k es → Has (left_by k.words (hold k.lists id)) (es ++ (hold k.lists id).events)
-  pub at_release : (id : ℕ) (k : Standing) (es : List KernelEvent) → Has k es → Has (left_by k.words (release k.lists id)) (es ++ (release k.lists id).events)
-  pub at_priority : (id pri : ℕ) (k : Standing) (es : List KernelEvent) → Has k es → Has (left_by k.words (change_pri k.lists id pri)) (es ++ (change_pri k.lists id pri).events)
-  pub at_flags : (id flags : ℕ) (k : Standing) (es : List KernelEvent) → Has k es → Has (left_by k.words (set_flags k.lists id flags)) (es ++ (set_flags k.lists id flags).events)
-  pub at_request : (to kind : ℕ) (k : Standing) (es : List KernelEvent) → to ≤ 63 → has_task to k.lists.tasks ≡ true → Has k es → Sent (requested to kind k) (es ++ post_events to)
-  pub at_going_on : (k : Standing) (es : List KernelEvent) → Has k es → Sent (posted SHELL k) (es ++ post_events SHELL)
-  pub at_finish : (k : Standing) (es : List KernelEvent) → Has k es → Sent k es
-  pub at_stop : (k : Standing) (es : List KernelEvent) → Sent k es → After k.lists es
-  pub at_end : (k : Standing) (es : List KernelEvent) → Sent k es → After (finished k.lists) (es ++ [])
+  pub console : (k : StoreWithLists) (es : List KernelEvent) → Has k es → has_task CONSOLE k.lists.tasks ≡ true
+  pub at_start : (d : Disc) (name : List ℕ) (rest : Result (Unit {0}) ℕ) (pri : Priority) (k : StoreWithLists) (es : List KernelEvent) → Has k es → Has (start_program d name rest pri k).left (es ++ [])
+  pub at_beginning : (id : ℕ) (k : StoreWithLists) (es : List KernelEvent) → HasGuest k.lists id → Has k es → Has (begun id k) (es ++ [])
+  pub at_hold : (id : ℕ) (k : StoreWithLists) (es : List KernelEvent) → Has k es → Has (left_by k.words (hold k.lists id)) (es ++ (hold k.lists id).events)
+  pub at_release : (id : ℕ) (k : StoreWithLists) (es : List KernelEvent) → Has k es → Has (left_by k.words (release k.lists id)) (es ++ (release k.lists id).events)
+  pub at_priority : (id pri : ℕ) (k : StoreWithLists) (es : List KernelEvent) → Has k es → Has (left_by k.words (change_pri k.lists id pri)) (es ++ (change_pri k.lists id pri).events)
+  pub at_flags : (id flags : ℕ) (k : StoreWithLists) (es : List KernelEvent) → Has k es → Has (left_by k.words (set_flags k.lists id flags)) (es ++ (set_flags k.lists id flags).events)
+  pub at_request : (to kind : ℕ) (k : StoreWithLists) (es : List KernelEvent) → to ≤ 63 → has_task to k.lists.tasks ≡ true → Has k es → Sent (requested to kind k) (es ++ post_events to)
+  pub at_going_on : (k : StoreWithLists) (es : List KernelEvent) → Has k es → Sent (posted SHELL k) (es ++ post_events SHELL)
+  pub at_finish : (k : StoreWithLists) (es : List KernelEvent) → Has k es → Sent k es
+  pub at_stop : (k : StoreWithLists) (es : List KernelEvent) → Sent k es → After k.lists es
+  pub at_end : (k : StoreWithLists) (es : List KernelEvent) → Sent k es → After (finished k.lists) (es ++ [])
 
-module _ (Before Has Sent : Standing → List KernelEvent → Type 0) (After : Lists → List KernelEvent → Type 0) (h : Allows Before Has Sent After) where
+module _ (Before Has Sent : StoreWithLists → List KernelEvent → Type 0) (After : Lists → List KernelEvent → Type 0) (h : Allows Before Has Sent After) where
   abbrev On : ShellTurn → Type 0
-  On x = Has x.standing x.events
+  On x = Has x.store x.events
 
   abbrev Done : ShellTurn → Type 0
-  Done x = Sent x.standing x.events
+  Done x = Sent x.store x.events
 
   prompted-done : (x : ShellTurn) → On x → Done (prompted x)
-  prompted-done x r = h.at_request CONSOLE READ_LINE x.standing x.events (omega arith) (h.console x.standing x.events r) r
+  prompted-done x r = h.at_request CONSOLE READ_LINE x.store x.events (omega arith) (h.console x.store x.events r) r
 
   refused-done : (code : ℕ) (x : ShellTurn) → On x → Done (refused code x)
   refused-done code x r = prompted-done (shown (error_line code) x) r
@@ -110,7 +110,7 @@ module _ (Before Has Sent : Standing → List KernelEvent → Type 0) (After : L
     where
       on : (b : Bool) → Done (cond b (prompted (with_disc (with_stream_closed (with_piece x).disc) (with_piece x))) (goes_on (with_piece x)))
       on true = prompted-done (with_disc (with_stream_closed (with_piece x).disc) (with_piece x)) r
-      on false = h.at_going_on x.standing x.events r
+      on false = h.at_going_on x.store x.events r
 
   opened-done : (o : Result ℕ ℕ) (x : ShellTurn) → On x → Done (typed_if o x)
   opened-done (Ok stream) x r = typed-done x r
@@ -119,33 +119,33 @@ module _ (Before Has Sent : Standing → List KernelEvent → Type 0) (After : L
   -- ---- programs
 
   run-done : (name : List ℕ) (priority : Option ℕ) (x : ShellTurn) → On x → Done (run name priority x)
-  run-done name priority x r = on (start_program x.disc name (Ok tt) (run_priority priority) x.standing).answer refl
+  run-done name priority x r = on (start_program x.disc name (Ok tt) (run_priority priority) x.store).answer refl
     where
       y : ShellTurn
-      y = with_started (start_program x.disc name (Ok tt) (run_priority priority) x.standing) x
+      y = with_started (start_program x.disc name (Ok tt) (run_priority priority) x.store) x
 
       q : On y
-      q = h.at_start x.disc name (Ok tt) (run_priority priority) x.standing x.events r
+      q = h.at_start x.disc name (Ok tt) (run_priority priority) x.store x.events r
 
-      on : (o : Result ℕ ℕ) → (start_program x.disc name (Ok tt) (run_priority priority) x.standing).answer ≡ o → Done (after_run o y)
+      on : (o : Result ℕ ℕ) → (start_program x.disc name (Ok tt) (run_priority priority) x.store).answer ≡ o → Done (after_run o y)
       on (Ok id) e =
-          let there = started-there x.disc name (Ok tt) (run_priority priority) x.standing id e in
-          prompted-done (shown (task_number_line id) (with_program_begun id y)) (h.at_beginning id y.standing y.events (le-leb 5 id there.low, there.there) q)
+          let there = started-there x.disc name (Ok tt) (run_priority priority) x.store id e in
+          prompted-done (shown (task_number_line id) (with_program_begun id y)) (h.at_beginning id y.store y.events (le-leb 5 id there.low, there.there) q)
       on (Err code) e = refused-done code y q
 
   start-done : (name : List ℕ) (rest : Result (Unit {0}) ℕ) (x : ShellTurn) → On x → Done (start name rest x)
-  start-done name rest x r = on (start_program x.disc name rest AboveShell x.standing).answer refl
+  start-done name rest x r = on (start_program x.disc name rest AboveShell x.store).answer refl
     where
       y : ShellTurn
-      y = with_started (start_program x.disc name rest AboveShell x.standing) x
+      y = with_started (start_program x.disc name rest AboveShell x.store) x
 
       q : On y
-      q = h.at_start x.disc name rest AboveShell x.standing x.events r
+      q = h.at_start x.disc name rest AboveShell x.store x.events r
 
-      on : (o : Result ℕ ℕ) → (start_program x.disc name rest AboveShell x.standing).answer ≡ o → Done (after_start o y)
+      on : (o : Result ℕ ℕ) → (start_program x.disc name rest AboveShell x.store).answer ≡ o → Done (after_start o y)
       on (Ok id) e =
-          let there = started-there x.disc name rest AboveShell x.standing id e in
-          h.at_request id program_request y.standing y.events (omega (arith, there.high, highest-high x.standing.lists.version)) there.there q
+          let there = started-there x.disc name rest AboveShell x.store id e in
+          h.at_request id program_request y.store y.events (omega (arith, there.high, highest-high x.store.lists.version)) there.there q
       on (Err code) e = refused-done code y q
 
   -- ---- commands
@@ -156,14 +156,14 @@ module _ (Before Has Sent : Standing → List KernelEvent → Type 0) (After : L
   executed-done Examine x r = prompted-done (shown (file_lines x.disc) x) r
   executed-done (Delete name) x r = answered-done (after_delete x.disc name).answer (with_disc (after_delete x.disc name).disc x) r
   executed-done (Rename from to) x r = answered-done (after_rename x.disc from to).answer (with_disc (after_rename x.disc from to).disc x) r
-  executed-done Status x r = prompted-done (shown (task_lines x.standing.lists.tasks) x) r
-  executed-done Map x r = prompted-done (shown (block_line x.standing.lists.blocks) x) r
-  executed-done (Hold id) x r = answered-done (hold x.standing.lists id).answer (called (hold x.standing.lists id) x) (h.at_hold id x.standing x.events r)
-  executed-done (Release id) x r = answered-done (release x.standing.lists id).answer (called (release x.standing.lists id) x) (h.at_release id x.standing x.events r)
-  executed-done (ChangePriority id pri) x r = answered-done (change_pri x.standing.lists id pri).answer (called (change_pri x.standing.lists id pri) x) (h.at_priority id pri x.standing x.events r)
-  executed-done (Break id flags) x r = answered-done (set_flags x.standing.lists id flags).answer (called (set_flags x.standing.lists id flags) x) (h.at_flags id flags x.standing x.events r)
+  executed-done Status x r = prompted-done (shown (task_lines x.store.lists.tasks) x) r
+  executed-done Map x r = prompted-done (shown (block_line x.store.lists.blocks) x) r
+  executed-done (Hold id) x r = answered-done (hold x.store.lists id).answer (called (hold x.store.lists id) x) (h.at_hold id x.store x.events r)
+  executed-done (Release id) x r = answered-done (release x.store.lists id).answer (called (release x.store.lists id) x) (h.at_release id x.store x.events r)
+  executed-done (ChangePriority id pri) x r = answered-done (change_pri x.store.lists id pri).answer (called (change_pri x.store.lists id pri) x) (h.at_priority id pri x.store x.events r)
+  executed-done (Break id flags) x r = answered-done (set_flags x.store.lists id flags).answer (called (set_flags x.store.lists id flags) x) (h.at_flags id flags x.store x.events r)
   executed-done (Run program priority) x r = run-done program priority x r
-  executed-done Finish x r = h.at_finish x.standing x.events r
+  executed-done Finish x r = h.at_finish x.store x.events r
   executed-done (Start program rest) x r = start-done program rest x r
 
   line-done : (o : Result Command ℕ) (x : ShellTurn) → On x → Done (executed_if o x)
@@ -186,38 +186,38 @@ module _ (Before Has Sent : Standing → List KernelEvent → Type 0) (After : L
 
   -- where the shell has these packets
   abbrev first_of : List QueuedPacket → ShellTurn → ShellTurn
-  first_of ps x = let t = taken_from ps x.standing.lists in
-      let y : ShellTurn = and_then (left_with x.standing.words t.lists t.plain) t.events x in
-      treated (first_request y.standing.words ps) y
+  first_of ps x = let t = taken_from ps x.store.lists in
+      let y : ShellTurn = and_then (left_with x.store.words t.lists t.plain) t.events x in
+      treated (first_request y.store.words ps) y
 
-  first-done : (x : ShellTurn) → Before x.standing x.events → Done (first_treated x)
-  first-done x b = on (work x.standing.lists) refl
+  first-done : (x : ShellTurn) → Before x.store x.events → Done (first_treated x)
+  first-done x b = on (work x.store.lists) refl
     where
-      on : (ps : List QueuedPacket) → work x.standing.lists ≡ ps → Done (first_of ps x)
-      on [] e = h.at_none x.standing x.events b
+      on : (ps : List QueuedPacket) → work x.store.lists ≡ ps → Done (first_of ps x)
+      on [] e = h.at_none x.store x.events b
       on (p ∷ ps) e = either (eqb p.address SHELL_PACKET) refl
         where
           y : ShellTurn
-          y = and_then (after_first p ps x.standing) (first_event p x.standing ∷ []) x
+          y = and_then (after_first p ps x.store) (first_event p x.store ∷ []) x
 
           r : Request
-          r = request_at y.standing.words p.address
+          r = request_at y.store.words p.address
 
           either : (c : Bool) → eqb p.address SHELL_PACKET ≡ c → Done (cond c (treated_in y.shell.mode r y) (returned_unknown r y))
-          either true own = own-done y.shell.mode r y (h.at_own p ps x.standing x.events e (eqb-true p.address SHELL_PACKET own) b)
-          either false other = h.at_other p ps x.standing x.events e b
+          either true own = own-done y.shell.mode r y (h.at_own p ps x.store x.events e (eqb-true p.address SHELL_PACKET own) b)
+          either false other = h.at_other p ps x.store x.events e b
 
   -- ---- the turn
 
-  ended-done : (x : ShellTurn) → Done x → After (ended x).standing.lists (ended x).events
+  ended-done : (x : ShellTurn) → Done x → After (ended x).store.lists (ended x).events
   ended-done x b = on x.finished
     where
-      on : (c : Bool) → let y : ShellTurn = cond c x (and_then (left_with x.standing.words (finished x.standing.lists) []) [] x) in
-          After y.standing.lists y.events
-      on true = h.at_stop x.standing x.events b
-      on false = h.at_end x.standing x.events b
+      on : (c : Bool) → let y : ShellTurn = cond c x (and_then (left_with x.store.words (finished x.store.lists) []) [] x) in
+          After y.store.lists y.events
+      on true = h.at_stop x.store x.events b
+      on false = h.at_end x.store x.events b
 
-  pub turn-done : (s : List ℕ) (l : Lists) (sh : Shell) (d : Disc) → Before (standing s l) [] → After (shell_turn s l sh d).standing.lists (shell_turn s l sh d).events
+  pub turn-done : (s : List ℕ) (l : Lists) (sh : Shell) (d : Disc) → Before (store_with_lists s l) [] → After (shell_turn s l sh d).store.lists (shell_turn s l sh d).events
   unfolding shell_turn
   turn-done s l sh d b = on (work l)
     where
@@ -225,6 +225,6 @@ module _ (Before Has Sent : Standing → List KernelEvent → Type 0) (After : L
       x = turn_begun s l sh d
 
       on : (ps : List QueuedPacket) → let y : ShellTurn = ended (all_parts ps x) in
-          After y.standing.lists y.events
-      on [] = ended-done x (h.at_waiting (standing s l) [] b)
-      on (p ∷ ps) = ended-done (first_treated (with_cleared x)) (first-done (with_cleared x) (h.at_clearing (standing s l) [] b))
+          After y.store.lists y.events
+      on [] = ended-done x (h.at_waiting (store_with_lists s l) [] b)
+      on (p ∷ ps) = ended-done (first_treated (with_cleared x)) (first-done (with_cleared x) (h.at_clearing (store_with_lists s l) [] b))

@@ -13,14 +13,14 @@ use Rattle.kernel_model.specs.KernelRecord.HoldsLists.{HoldsLists}
 use Rattle.kernel_model.specs.KernelRecord.Kernel.{Shell}
 use Rattle.kernel_model.specs.KernelRecord.Lists.{Lists, has_task}
 use Rattle.kernel_model.specs.KernelRecord.Running.{RunsAlive}
-use Rattle.kernel_model.specs.KernelRecord.Standing.{Standing, standing}
+use Rattle.kernel_model.specs.KernelRecord.StoreWithLists.{StoreWithLists, store_with_lists}
 use Rattle.kernel_model.specs.KernelRecord.Task.{Task}
 use Rattle.kernel_model.specs.KernelRecord.ValidLists.{AreValid}
-use Rattle.kernel_model.specs.KernelRecord.ValidQueues.{HasGuest, MayStand}
+use Rattle.kernel_model.specs.KernelRecord.ValidQueues.{HasGuest, IsValidPacket}
 use Rattle.kernel_model.specs.KernelRecord.ValidQueues.Place.{Work}
 use Rattle.kernel_model.specs.declared.kernel_record.numbers.TheConstants.{CONSOLE, SHELL, SHELL_PACKET}
 use Rattle.kernel_model.proofs.KernelRecord.PacketMoves.{unqueued-unowned}
-use Rattle.kernel_model.proofs.KernelRecord.QueuePlaces.{place-stands}
+use Rattle.kernel_model.proofs.KernelRecord.QueuePlaces.{valid-at-place}
 use Rattle.kernel_calls.specs.CallAnswers.Guests.{guest_tests}
 use Rattle.kernel_calls.specs.CallAnswers.Made.{Made, done}
 use Rattle.kernel_calls.specs.TaskCalls.ChangePri.{change_pri, moved, priority_tests, with_new_priority}
@@ -36,11 +36,11 @@ use Rattle.kernel_calls.proofs.PacketCalls.SentPackets.{comes-valid}
 use Rattle.resident_tasks.specs.ResidentRequests.Answers.{returned}
 use Rattle.resident_tasks.specs.ResidentRequests.Requests.{RunsResident, IsForeign, request_at, work}
 use Rattle.resident_tasks.proofs.ResidentRequests.ResidentTurns.{takes-request}
-use Rattle.kernel_boot.proofs.StandingKernels.{left-is}
+use Rattle.kernel_boot.proofs.StoresAfterCalls.{left-is}
 use Rattle.shell.specs.ShellPrograms.ClearedTasks.{cleared}
 use Rattle.shell.specs.ShellPrograms.KeptLists.{KeepsResidents}
 use Rattle.shell.specs.ShellPrograms.ShellPacket.{HasPacket, posted, requested, request_words}
-use Rattle.shell.specs.ShellPrograms.Standings.{left_by}
+use Rattle.shell.specs.ShellPrograms.StoresWithLists.{left_by}
 use Rattle.shell.specs.ShellPrograms.StartedProgram.{begun, start_program}
 use Rattle.shell.specs.declared.shell_programs.programs.Priority.{Priority}
 use Rattle.shell.proofs.ShellPrograms.KeptRules.{begun-packets, begun-residents, begun-runs, cleared-residents, cleared-runs, started-packets, started-residents, started-runs}
@@ -60,17 +60,17 @@ use Rattle.tripos_machine.proofs.PacketHistory.StartedPrograms.{begun-holds, sta
 use Rattle.tripos_machine.proofs.PacketHistory.TakenPackets.{returned-runs, returned-valid, runs-then, taken-valid}
 
 -- The store holds the lists, and a resident runs.
-pub record GoesWell (k : Standing) (es : List KernelEvent) : Type 0 where
+pub record GoesWell (k : StoreWithLists) (es : List KernelEvent) : Type 0 where
   pub holds : HoldsLists k.words k.lists
   pub runs : RunsResident k.lists
 
 -- It is the shell.
-pub record IsShell (k : Standing) (es : List KernelEvent) : Type 0 where
+pub record IsShell (k : StoreWithLists) (es : List KernelEvent) : Type 0 where
   pub well : GoesWell k es
   pub is : k.lists.running ≡ SHELL
 
 -- It has its packet.
-pub record HasOwn (k : Standing) (es : List KernelEvent) : Type 0 where
+pub record HasOwn (k : StoreWithLists) (es : List KernelEvent) : Type 0 where
   pub shell : IsShell k es
   pub packet : HasPacket k.lists
 
@@ -83,14 +83,14 @@ console-there l v r is = v.tasks.console ∙ sym v.tasks.shell ∙ shell-there l
 
 -- ---- clearing up
 
-pub deleted-holds : (id : ℕ) (k : Standing) → RunsAlive k.lists → HoldsLists k.words k.lists → HoldsLists (left_by k.words (delete_task k.lists id)).words (delete_task k.lists id).lists
+pub deleted-holds : (id : ℕ) (k : StoreWithLists) → RunsAlive k.lists → HoldsLists k.words k.lists → HoldsLists (left_by k.words (delete_task k.lists id)).words (delete_task k.lists id).lists
 deleted-holds id k alive h =
     call-holds k.words k.lists (guest_tests k.lists id ++ deletion_tests k.lists id) (done (without_task k.lists id)) h (delete_task-valid k.words k.lists h id alive) refl
 
-cleared-holds : (k : Standing) → RunsAlive k.lists → HoldsLists k.words k.lists → HoldsLists (cleared k).words (cleared k).lists
+cleared-holds : (k : StoreWithLists) → RunsAlive k.lists → HoldsLists k.words k.lists → HoldsLists (cleared k).words (cleared k).lists
 cleared-holds k alive h = all-cleared (λ j. HoldsLists j.words j.lists) (λ id j low a x. deleted-holds id j a x) unloaded-holds k alive h
 
-cleared-so : (k : Standing) (es : List KernelEvent) → IsShell k es → IsShell (cleared k) (es ++ [])
+cleared-so : (k : StoreWithLists) (es : List KernelEvent) → IsShell k es → IsShell (cleared k) (es ++ [])
 cleared-so k es b =
     record {
       well = record { holds = cleared-holds k b.well.runs.field b.well.holds; runs = cleared-runs k b.well.runs };
@@ -99,7 +99,7 @@ cleared-so k es b =
 
 -- ---- the first packet is taken
 
-module _ (p : QueuedPacket) (ps : List QueuedPacket) (k : Standing) (es : List KernelEvent) (is : work k.lists ≡ p ∷ ps) (b : IsShell k es) where
+module _ (p : QueuedPacket) (ps : List QueuedPacket) (k : StoreWithLists) (es : List KernelEvent) (is : work k.lists ≡ p ∷ ps) (b : IsShell k es) where
   abbrev l : Lists
   l = k.lists
 
@@ -136,7 +136,7 @@ module _ (p : QueuedPacket) (ps : List QueuedPacket) (k : Standing) (es : List K
   first-words = left-is k.words words (without_first ps k) ((p.address, no_queue) ∷ []) (departed-changed k.words l (Work l.running) p [] ps h is _ valid refl)
 
   pub first-sender : has_task p.sender l.tasks ≡ true
-  first-sender = (subst (AllByRecursion (MayStand l (Work l.running))) is (place-stands l (Work l.running) h.valid b.well.runs.there)).0.sender foreign.0 b.well.runs.resident
+  first-sender = (subst (AllByRecursion (IsValidPacket l (Work l.running))) is (valid-at-place l (Work l.running) h.valid b.well.runs.there)).0.sender foreign.0 b.well.runs.resident
 
   back-so : (fs : List KernelEvent) → GoesWell (left_by (after_first p ps k).words (sent_back p ps k)) fs
   back-so fs =
@@ -148,7 +148,7 @@ module _ (p : QueuedPacket) (ps : List QueuedPacket) (k : Standing) (es : List K
 
 -- ---- a program
 
-started-so : (d : Disc) (name : List ℕ) (rest : Result (Unit {0}) ℕ) (pri : Priority) (k : Standing) (es fs : List KernelEvent) → HasOwn k es → HasOwn (start_program d name rest pri k).left fs
+started-so : (d : Disc) (name : List ℕ) (rest : Result (Unit {0}) ℕ) (pri : Priority) (k : StoreWithLists) (es fs : List KernelEvent) → HasOwn k es → HasOwn (start_program d name rest pri k).left fs
 started-so d name rest pri k es fs x =
     let kept : KeepsResidents k.lists (start_program d name rest pri k).left.lists = started-residents d name rest pri k in
     let h = started-holds d name rest pri k x.shell.well.holds in
@@ -157,7 +157,7 @@ started-so d name rest pri k es fs x =
       packet = packet-kept k.lists _ x.shell.well.holds.valid h.valid kept (started-packets d name rest pri k) x.packet;
     }
 
-begun-so : (id : ℕ) (k : Standing) (es fs : List KernelEvent) → HasGuest k.lists id → HasOwn k es → HasOwn (begun id k) fs
+begun-so : (id : ℕ) (k : StoreWithLists) (es fs : List KernelEvent) → HasGuest k.lists id → HasOwn k es → HasOwn (begun id k) fs
 begun-so id k es fs guest x =
     let h = begun-holds id k guest x.shell.well.holds in
     record {
@@ -167,7 +167,7 @@ begun-so id k es fs guest x =
 
 -- ---- a call about a task
 
-called-so : (call : Lists → Made) → IsTaskCall call → (k : Standing) (es fs : List KernelEvent) → HoldsLists (left_by k.words (call k.lists)).words (call k.lists).lists → HasOwn k es → HasOwn (left_by k.words (call k.lists)) fs
+called-so : (call : Lists → Made) → IsTaskCall call → (k : StoreWithLists) (es fs : List KernelEvent) → HoldsLists (left_by k.words (call k.lists)).words (call k.lists).lists → HasOwn k es → HasOwn (left_by k.words (call k.lists)) fs
 called-so call is k es fs h x =
     let goes : GoesOn k.lists (call k.lists) = is.goes k.words _ k.lists x.shell.well.holds h x.shell.is x.shell.well.runs in
     let still = goes.running ∙ x.shell.is in
@@ -185,7 +185,7 @@ priority-size id pri l = on (find (λ t. eqb t.id id) l.tasks)
 
 -- ---- its packet is sent
 
-posted-so : (to : ℕ) (k : Standing) (es : List KernelEvent) → to ≤ 63 → has_task to k.lists.tasks ≡ true → HoldsLists k.words k.lists → RunsResident k.lists → HasPacket k.lists → GoesWell (posted to k) es
+posted-so : (to : ℕ) (k : StoreWithLists) (es : List KernelEvent) → to ≤ 63 → has_task to k.lists.tasks ≡ true → HoldsLists k.words k.lists → RunsResident k.lists → HasPacket k.lists → GoesWell (posted to k) es
 posted-so to k es low there h r packet =
     let l : Lists = k.lists in
     let q : QueuedPacket = sent_packet k.words l (Work to) SHELL_PACKET SHELL in
@@ -199,9 +199,9 @@ posted-so to k es low there h r packet =
       runs = posted-runs to k low r;
     }
 
-requested-so : (to kind : ℕ) (k : Standing) (es fs : List KernelEvent) → to ≤ 63 → has_task to k.lists.tasks ≡ true → HasOwn k es → GoesWell (requested to kind k) fs
+requested-so : (to kind : ℕ) (k : StoreWithLists) (es fs : List KernelEvent) → to ≤ 63 → has_task to k.lists.tasks ≡ true → HasOwn k es → GoesWell (requested to kind k) fs
 requested-so to kind k es fs low there x =
-    posted-so to (standing (written (request_words kind) k.words) k.lists) fs low there
+    posted-so to (store_with_lists (written (request_words kind) k.words) k.lists) fs low there
     (request-keeper k.words k.lists to kind tells_nothing (length k.words) (no-keeper k.words k.lists x.shell.well.holds) (record { packet = x.packet; there = there })).lists
     x.shell.well.runs x.packet
 
@@ -238,5 +238,5 @@ shell-allows =
       at_end = λ k es x. finished-valid k.words k.lists x.holds x.runs;
     }
 
-pub shell-valid : (s : List ℕ) (l : Lists) (sh : Shell) (d : Disc) → HoldsLists s l → RunsResident l → l.running ≡ SHELL → AreValid (shell_turn s l sh d).standing.lists
+pub shell-valid : (s : List ℕ) (l : Lists) (sh : Shell) (d : Disc) → HoldsLists s l → RunsResident l → l.running ≡ SHELL → AreValid (shell_turn s l sh d).store.lists
 shell-valid s l sh d h r is = turn-done IsShell HasOwn GoesWell (λ l es. AreValid l) shell-allows s l sh d (record { well = record { holds = h; runs = r }; is = is })

@@ -17,7 +17,7 @@ use Rattle.kernel_lists.proofs.HunkLoader.LoadedModules.{length-lengths}
 use Rattle.kernel_model.specs.KernelRecord.Changes.{AreUnowned, with_modules}
 use Rattle.kernel_model.specs.KernelRecord.HoldsLists.{HoldsLists}
 use Rattle.kernel_model.specs.KernelRecord.Lists.{Lists, address_of_task}
-use Rattle.kernel_model.specs.KernelRecord.Standing.{Standing}
+use Rattle.kernel_model.specs.KernelRecord.StoreWithLists.{StoreWithLists}
 use Rattle.kernel_model.specs.KernelRecord.ValidBlocks.{HasBlock, last_module_word}
 use Rattle.kernel_model.specs.KernelRecord.ValidLists.{AreValid}
 use Rattle.kernel_model.specs.KernelRecord.ValidQueues.{HasGuest}
@@ -40,7 +40,7 @@ use Rattle.kernel_boot.specs.BegunTask.{with_begun}
 use Rattle.kernel_boot.specs.BootTasks.{load_text}
 use Rattle.kernel_boot.proofs.BegunTask.{begun-changed}
 use Rattle.shell.specs.ShellPrograms.ClearedTasks.{unloaded}
-use Rattle.shell.specs.ShellPrograms.Standings.{left_by}
+use Rattle.shell.specs.ShellPrograms.StoresWithLists.{left_by}
 use Rattle.shell.specs.ShellPrograms.StartedProgram.{after_creation, after_loading, begun, creation, load_found, load_program, priority_of, program_stack, start_program}
 use Rattle.shell.specs.declared.shell_programs.programs.Priority.{Priority}
 use Rattle.shell.proofs.ShellPrograms.ProgramNumbers.{may-create_program}
@@ -81,7 +81,7 @@ load-valid s l hunks h =
         (new_module-valid (with_taken u l) [] l.modules it t.changed.lists.valid refl block unowned)
 
 -- a file is found, and its module loaded, or this is refused
-pub found-holds : (k : Standing) (o : Option (List ℕ)) (rest : Result (Unit {0}) ℕ) → HoldsLists k.words k.lists → HoldsLists (left_by k.words (load_found o rest k.lists)).words (load_found o rest k.lists).lists
+pub found-holds : (k : StoreWithLists) (o : Option (List ℕ)) (rest : Result (Unit {0}) ℕ) → HoldsLists k.words k.lists → HoldsLists (left_by k.words (load_found o rest k.lists)).words (load_found o rest k.lists).lists
 found-holds k None rest h = left-holds k.words k.lists [] h.valid h.size
 found-holds k (Some bytes) (Err code) h = left-holds k.words k.lists [] h.valid h.size
 found-holds k (Some bytes) (Ok u) h = on (module_of bytes)
@@ -93,22 +93,22 @@ found-holds k (Some bytes) (Ok u) h = on (module_of bytes)
 -- ---- a program is started, or refused
 
 -- a module is unloaded, or this is refused
-pub unloaded-holds : (m : ℕ) (k : Standing) → HoldsLists k.words k.lists → HoldsLists (unloaded m k).words (unloaded m k).lists
+pub unloaded-holds : (m : ℕ) (k : StoreWithLists) → HoldsLists k.words k.lists → HoldsLists (unloaded m k).words (unloaded m k).lists
 unloaded-holds m k h = call-holds k.words k.lists (unload_tests k.lists m) (done (with_given m (without_module m k.lists))) h (unload-valid k.words k.lists h m) refl
 
-created-holds : (pri : Priority) (m : ℕ) (k : Standing) → HoldsLists k.words k.lists → HoldsLists (left_by k.words (creation pri m k)).words (creation pri m k).lists
+created-holds : (pri : Priority) (m : ℕ) (k : StoreWithLists) → HoldsLists k.words k.lists → HoldsLists (left_by k.words (creation pri m k)).words (creation pri m k).lists
 created-holds pri m k h =
     let p : ℕ = priority_of pri k.lists in
     call-holds k.words k.lists (creation_tests k.words k.lists 0 (m ∷ []) program_stack p)
     (with_created k.words k.lists (new_task k.lists (unwrap_or (number_of k.lists 0) 0) (m ∷ []) program_stack p SHELL)) h
     (create_task-valid k.words k.lists h 0 (m ∷ []) program_stack p SHELL (may-create_program k.lists m)) refl
 
-pub started-holds : (d : Disc) (name : List ℕ) (rest : Result (Unit {0}) ℕ) (pri : Priority) (k : Standing) → HoldsLists k.words k.lists
+pub started-holds : (d : Disc) (name : List ℕ) (rest : Result (Unit {0}) ℕ) (pri : Priority) (k : StoreWithLists) → HoldsLists k.words k.lists
     → HoldsLists (start_program d name rest pri k).left.words (start_program d name rest pri k).left.lists
 unfolding start_program
 started-holds d name rest pri k h = on (load_program d name rest k.lists).answer
   where
-    j : Standing
+    j : StoreWithLists
     j = left_by k.words (load_program d name rest k.lists)
 
     found : HoldsLists j.words j.lists
@@ -124,7 +124,7 @@ started-holds d name rest pri k h = on (load_program d name rest k.lists).answer
 
 -- ---- it begins
 
-pub begun-holds : (id : ℕ) (k : Standing) → HasGuest k.lists id → HoldsLists k.words k.lists → HoldsLists (begun id k).words (begun id k).lists
+pub begun-holds : (id : ℕ) (k : StoreWithLists) → HasGuest k.lists id → HoldsLists k.words k.lists → HoldsLists (begun id k).words (begun id k).lists
 begun-holds id k guest h =
     let g : GuestAt k.lists id (address_of_task k.lists id) = guest-at k.lists id (address_of_task k.lists id) (there-at id k.lists.tasks guest.1) guest.0 in
     left-holds k.words (with_begun k.words id k.lists) [] (begun-changed k.words k.lists id (address_of_task k.lists id) h g _ _ refl refl).lists.valid h.size

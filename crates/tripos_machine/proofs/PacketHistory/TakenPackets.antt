@@ -9,10 +9,10 @@ use Rattle.kernel_model.specs.KernelRecord.Lists.{Lists, has_task}
 use Rattle.kernel_model.specs.KernelRecord.Owned.{owned}
 use Rattle.kernel_model.specs.KernelRecord.ValidBlocks.{AreData}
 use Rattle.kernel_model.specs.KernelRecord.ValidLists.{AreValid}
-use Rattle.kernel_model.specs.KernelRecord.ValidQueues.{MayStand, Place, is_fault_packet, is_key_packet}
+use Rattle.kernel_model.specs.KernelRecord.ValidQueues.{IsValidPacket, Place, is_fault_packet, is_key_packet}
 use Rattle.kernel_model.specs.KernelRecord.ValidQueues.Place.{Clock, Keyboard, Output, Pending, Work}
 use Rattle.kernel_model.proofs.KernelRecord.PacketMoves.{unqueued-unowned, unqueued-valid}
-use Rattle.kernel_model.proofs.KernelRecord.QueuePlaces.{place-stands, place-there, with_queue-residents, with_queue-size}
+use Rattle.kernel_model.proofs.KernelRecord.QueuePlaces.{place-there, valid-at-place, with_queue-residents, with_queue-size}
 use Rattle.kernel_calls.specs.PacketCalls.Destinations.{queue_for}
 use Rattle.kernel_calls.specs.PacketCalls.PacketMoves.{sent_packet}
 use Rattle.kernel_calls.specs.PacketCalls.QueueWords.{unqueued}
@@ -80,7 +80,7 @@ module _ (s : List ℕ) (l : Lists) (h : HoldsLists s l) (at : Place) (p : Queue
     taken-holds = left-holds s m [] taken-valid (h.size ∙ sym (with_queue-size at ps l))
 
     lodged : AreData m.blocks p.address 5
-    lodged = data-then at ps l p.address 5 (subst (AllByRecursion (MayStand l at)) is (place-stands l at h.valid (place-there l at [] p ps h.valid is))).0.lodged
+    lodged = data-then at ps l p.address 5 (subst (AllByRecursion (IsValidPacket l at)) is (valid-at-place l at h.valid (place-there l at [] p ps h.valid is))).0.lodged
 
     unowned : AreUnowned m p.address (p.address + 5)
     unowned = unqueued-unowned l at p [] ps h.valid is

@@ -44,7 +44,7 @@ use Rattle.kernel_calls.proofs.TaskCalls.EndedTask.{removed-made}
 use Rattle.kernel_calls.proofs.TaskCalls.PlacedTask.{comes}
 use Rattle.kernel_calls.proofs.TaskCalls.TestsInTurn.{all-passed}
 use Rattle.tripos_machine.proofs.PacketHistory.NoKeeper.{tells_nothing}
-use Rattle.tripos_machine.proofs.PacketHistory.OneGuest.{guest-stands, state-valid}
+use Rattle.tripos_machine.proofs.PacketHistory.OneGuest.{guest-valid, state-valid}
 use Rattle.tripos_machine.proofs.PacketHistory.TestedCalls.{calling-guest, tested-guest, unless-valid}
 
 -- ---- flags, and whether a task is held
@@ -52,7 +52,7 @@ use Rattle.tripos_machine.proofs.PacketHistory.TestedCalls.{calling-guest, teste
 module _ (l : Lists) (v : AreValid l) where
   -- a guest with other flags, held or not
   altered-valid : (id address : ℕ) (change : Task → Task) (flags : ℕ) (b : Bool) (g : GuestAt l id address) → change g.task ≡ record g.task { flags = flags; held = b } → AreValid (with_task id change l)
-  altered-valid id address change flags b g is = state-valid l id address v g change g.task.field flags b is (guest-stands l id address v g).field
+  altered-valid id address change flags b g is = state-valid l id address v g change g.task.field flags b is (guest-valid l id address v g).field
 
   pub set_flags-valid : (id flags : ℕ) → AreValid (set_flags l id flags).lists
   set_flags-valid id flags =

@@ -8,7 +8,7 @@ use Rattle.ram_disc.specs.Contents.{Adds, Area, Empties, bytes_at}
 use Rattle.ram_disc.specs.Disc.{Disc, IsDisc, sectors_of, stream_at}
 use Rattle.ram_disc.specs.DiscCalls.{Outcome, after_append, after_close, after_delete, after_open_read, after_open_write, after_read_on, after_rename, has_room, is_reader, is_writer, unless_refused, with_more}
 use Rattle.ram_disc.specs.Name.{IsName}
-use Rattle.ram_disc.specs.Slots.{AreKept, HasPlace, IsAt, disc_in, place_in, stands_on, stream_in, writes_on}
+use Rattle.ram_disc.specs.Slots.{AreKept, HasPlace, IsAt, disc_in, is_on_slot, place_in, stream_in, writes_on}
 use Rattle.ram_disc.specs.declared.places.Place.{Place}
 use Rattle.ram_disc.proofs.Calls.{close-done, close-none, number-inside, open_read-done, open_read-full, open_read-kept, open_read-missing, open_read-written, outcome}
 use Rattle.ram_disc.proofs.ChangeCalls.{delete-done, delete-missing, delete-used, place-without, rename-done, rename-missing, rename-there, rename-used, write-done, write-full, write-kept, write-new-done, write-new-full, write-new-kept, write-new-none, write-used}
@@ -17,7 +17,7 @@ use Rattle.ram_disc.proofs.KeptStreams.{keep-none}
 use Rattle.ram_disc.proofs.StreamLemmas.{stream_at-place}
 use Rattle.ram_disc.proofs.TransferCalls.{append-done, append-full, append-kept, read-done, read-kept}
 use Rattle.ram_disc.proofs.ValidDisc.{place-number, valid-kept}
-use Rattle.tripos_machine.proofs.PacketHistory.FoundNames.{name-stands}
+use Rattle.tripos_machine.proofs.PacketHistory.FoundNames.{name-at-place}
 use Rattle.tripos_machine.proofs.PacketHistory.KeptDiscs.{IsKept, disc-kept}
 
 -- a list has no last one, or it has
@@ -60,7 +60,7 @@ module _ (names : List (List ℕ)) (a : Area) (used unused : List ℕ) (ps : Lis
 
   open_read-left : (name : List ℕ) (shell : Bool) → IsDisc (after_open_read D name shell).disc
   open_read-left name shell =
-      elim (name-stands names name used h.slots.in_order) [
+      elim (name-at-place names name used h.slots.in_order) [
         | inl at ↦ on at.0 at.1 (list_any (writes_on (S at.0)) ps) refl
         | inr place ↦ by-answer (after_open_read D name shell) (Err 41) D (open_read-missing names a used unused ps h name shell place.0 place.1) now
       ]
@@ -79,15 +79,15 @@ module _ (names : List (List ℕ)) (a : Area) (used unused : List ℕ) (ps : Lis
 
   open_write-left : (name : List ℕ) → IsName name → IsDisc (after_open_write D name).disc
   open_write-left name lawful =
-      elim (name-stands names name used h.slots.in_order) [
-        | inl at ↦ on at.0 at.1 (list_any (stands_on (S at.0)) ps) refl (position is_none (take 16 ps)) refl
+      elim (name-at-place names name used h.slots.in_order) [
+        | inl at ↦ on at.0 at.1 (list_any (is_on_slot (S at.0)) ps) refl (position is_none (take 16 ps)) refl
         | inr place ↦ new place.0 place.1 (position is_none (take 16 ps)) refl (ends unused)
       ]
     where
       write_at : ℕ → Place
       write_at slot = record { slot = slot; position = 0; sector = 0; writes = true }
 
-      on : (i : ℕ) → IsAt names used name i → (b : Bool) → list_any (stands_on (S i)) ps ≡ b → (o : Option ℕ) → position is_none (take 16 ps) ≡ o → IsDisc (after_open_write D name).disc
+      on : (i : ℕ) → IsAt names used name i → (b : Bool) → list_any (is_on_slot (S i)) ps ≡ b → (o : Option ℕ) → position is_none (take 16 ps) ≡ o → IsDisc (after_open_write D name).disc
       on i at true e o f = by-answer (after_open_write D name) (Err 47) D (write-used names a used unused ps h name i at e) now
       on i at false e None f = by-answer (after_open_write D name) (Err 45) D (write-full names a used unused ps h name i at e f) now
       on i at false e (Some k) f =
@@ -122,7 +122,7 @@ module _ (names : List (List ℕ)) (a : Area) (used unused : List ℕ) (ps : Lis
           by false w =
               let n : ℕ = length (take count (drop p.position (bytes_at a p.slot))) in
               let q : Place = record { slot = p.slot; position = p.position + n; sector = get_or (get_or a.chains p.slot []) ((p.position + n) / 512) 0; writes = p.writes } in
-              let st = h.stand (k - 1) p (place-number ps k p e).1 in
+              let st = h.streams (k - 1) p (place-number ps k p e).1 in
               by-answer (after_read_on D k count) (Ok n) (disc_in names a.bytes used (set ps (k - 1) (Some q))) (read-done names a used unused ps h k count n p q e w refl refl refl refl)
               (valid-kept names a used unused (set ps (k - 1) (Some q))
               (read-kept names a used unused ps h k n p q e w (omega (arith, st.within, length-take count (drop p.position (bytes_at a p.slot)), length-drop p.position (bytes_at a p.slot))) refl refl refl (λ less. refl)))
@@ -166,12 +166,12 @@ module _ (names : List (List ℕ)) (a : Area) (used unused : List ℕ) (ps : Lis
 
   delete-left : (name : List ℕ) → IsDisc (after_delete D name).disc
   delete-left name =
-      elim (name-stands names name used h.slots.in_order) [
-        | inl at ↦ on at.0 at.1 (list_any (stands_on (S at.0)) ps) refl
+      elim (name-at-place names name used h.slots.in_order) [
+        | inl at ↦ on at.0 at.1 (list_any (is_on_slot (S at.0)) ps) refl
         | inr place ↦ by-answer (after_delete D name) (Err 41) D (delete-missing names a used unused ps h name place.0 place.1) now
       ]
     where
-      on : (i : ℕ) → IsAt names used name i → (b : Bool) → list_any (stands_on (S i)) ps ≡ b → IsDisc (after_delete D name).disc
+      on : (i : ℕ) → IsAt names used name i → (b : Bool) → list_any (is_on_slot (S i)) ps ≡ b → IsDisc (after_delete D name).disc
       on i at true e = by-answer (after_delete D name) (Err 47) D (delete-used names a used unused ps h name i at e) now
       on i at false e =
           by-answer (after_delete D name) (Ok tt) (disc_in names (emptied (S i)).bytes (remove used i) ps) (delete-done names a used unused ps h (emptied (S i)) name i at e (empties (S i)))
@@ -179,16 +179,16 @@ module _ (names : List (List ℕ)) (a : Area) (used unused : List ℕ) (ps : Lis
 
   rename-left : (from to : List ℕ) → IsName to → IsDisc (after_rename D from to).disc
   rename-left from to lawful =
-      elim (name-stands names from used h.slots.in_order) [
+      elim (name-at-place names from used h.slots.in_order) [
         | inl at ↦
-            elim (name-stands names to used h.slots.in_order) [
+            elim (name-at-place names to used h.slots.in_order) [
               | inl there ↦ by-answer (after_rename D from to) (Err 42) D (rename-there names a used unused ps h from to at.0 there.0 at.1 there.1) now
-              | inr place ↦ on at.0 at.1 place.0 place.1 (list_any (stands_on (S at.0)) ps) refl
+              | inr place ↦ on at.0 at.1 place.0 place.1 (list_any (is_on_slot (S at.0)) ps) refl
             ]
         | inr place ↦ by-answer (after_rename D from to) (Err 41) D (rename-missing names a used unused ps h from to place.0 place.1) now
       ]
     where
-      on : (i : ℕ) → IsAt names used from i → (j : ℕ) → HasPlace names used to j → (b : Bool) → list_any (stands_on (S i)) ps ≡ b → IsDisc (after_rename D from to).disc
+      on : (i : ℕ) → IsAt names used from i → (j : ℕ) → HasPlace names used to j → (b : Bool) → list_any (is_on_slot (S i)) ps ≡ b → IsDisc (after_rename D from to).disc
       on i at j place true e = by-answer (after_rename D from to) (Err 47) D (rename-used names a used unused ps h from to i j at place e) now
       on i at j place false e =
           let there : HasPlace names (remove used i) to (cond (ltb i j) (j - 1) j) = place-without names used to i j at.within place in

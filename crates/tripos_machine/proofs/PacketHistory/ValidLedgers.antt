@@ -22,8 +22,8 @@ use Rattle.kernel_model.proofs.KernelRecord.QueuePlaces.{place-there}
 use Rattle.kernel_model.proofs.KernelRecord.RootCounts.{highest-high}
 use Rattle.kernel_model.proofs.KernelRecord.TaskPlaces.{TaskPlace, task-places}
 use Rattle.kernel_calls.specs.PacketCalls.Dqpkt.{pending_number}
-use Rattle.kernel_calls.proofs.PacketCalls.HeldPlaces.{StandsBetween, stands-between}
-use Rattle.tripos_machine.specs.EventHistory.Ledger.{AreOnce, Entry, NeverFall, clock, count_of, same_queue, stands_in}
+use Rattle.kernel_calls.proofs.PacketCalls.HeldPlaces.{IsQueuedBetween, between-parts}
+use Rattle.tripos_machine.specs.EventHistory.Ledger.{AreOnce, Entry, NeverFall, clock, count_of, is_on_queue, same_queue}
 use Rattle.tripos_machine.proofs.EventHistory.Packets.{none-counted, some-counted}
 use Rattle.tripos_machine.proofs.EventHistory.Queues.{same-true}
 use Rattle.tripos_machine.specs.PacketHistory.Queues.{clock_entry, entry_of, ledger_of}
@@ -80,15 +80,15 @@ pub record IsPlaceOf (l : Lists) (q : ℤ) : Type 0 where
 
 module _ (l : Lists) (v : AreValid l) where
   -- a place that has a packet is there
-  place-of : (at : Place) → IsNamed at → (a : ℕ) → stands_in a (entries_at at (queue_of at l)) ≡ true → IsPlaceOf l (number_of at)
+  place-of : (at : Place) → IsNamed at → (a : ℕ) → is_on_queue a (entries_at at (queue_of at l)) ≡ true → IsPlaceOf l (number_of at)
   place-of at named a some =
-      let r : StandsBetween a (queue_of at l) = stands-between a (queue_of at l) (sym (any-at at a (queue_of at l)) ∙ some) in
+      let r : IsQueuedBetween a (queue_of at l) = between-parts a (queue_of at l) (sym (any-at at a (queue_of at l)) ∙ some) in
       record { at = at; number = refl; has = place-there l at r.front r.packet r.back v r.is; named = named }
 
-  pub has-place : (q : ℤ) (a : ℕ) → stands_in a (ledger_of l q) ≡ true → IsPlaceOf l q
+  pub has-place : (q : ℤ) (a : ℕ) → is_on_queue a (ledger_of l q) ≡ true → IsPlaceOf l q
   has-place (pos n) a = on (eqb n pending_number) refl
     where
-      on : (b : Bool) → eqb n pending_number ≡ b → stands_in a (map entry_of (cond b l.pending (work_of n l.tasks))) ≡ true → IsPlaceOf l (pos n)
+      on : (b : Bool) → eqb n pending_number ≡ b → is_on_queue a (map entry_of (cond b l.pending (work_of n l.tasks))) ≡ true → IsPlaceOf l (pos n)
       on true is some = subst (λ z. IsPlaceOf l (pos z)) (sym (eqb-true n pending_number is)) (place-of Pending tt a some)
       on false is some = place-of (Work n) (λ e. absurd (false≢true (sym is ∙ eq-eqb n pending_number e))) a some
   has-place (negsuc zero) a = place-of Clock tt a
@@ -179,17 +179,17 @@ module _ (l : Lists) (v : AreValid l) where
   pub valid-once : AreOnce (ledger_of l)
   valid-once =
       record {
-        once = λ q a. at-most q a (stands_in a (ledger_of l q)) refl;
+        once = λ q a. at-most q a (is_on_queue a (ledger_of l q)) refl;
         one = λ q r a here there. same q r a here there (same_queue q r) refl;
       }
     where
-      at-most : (q : ℤ) (a : ℕ) (b : Bool) → stands_in a (ledger_of l q) ≡ b → count_of a (ledger_of l q) ≤ 1
+      at-most : (q : ℤ) (a : ℕ) (b : Bool) → is_on_queue a (ledger_of l q) ≡ b → count_of a (ledger_of l q) ≤ 1
       at-most q a true some =
           let p : IsPlaceOf l q = has-place l v q a some in
           omega (arith, ledger-count q a p, count-place a l p.at v.tasks.distinct p.has, v.owns.apart a)
       at-most q a false none = omega (arith, none-counted a (ledger_of l q) none)
 
-      same : (q r : ℤ) (a : ℕ) → stands_in a (ledger_of l q) ≡ true → stands_in a (ledger_of l r) ≡ true → (b : Bool) → same_queue q r ≡ b → q ≡ r
+      same : (q r : ℤ) (a : ℕ) → is_on_queue a (ledger_of l q) ≡ true → is_on_queue a (ledger_of l r) ≡ true → (b : Bool) → same_queue q r ≡ b → q ≡ r
       same q r a here there true is = same-true q r is
       same q r a here there false is =
           let p : IsPlaceOf l q = has-place l v q a here in

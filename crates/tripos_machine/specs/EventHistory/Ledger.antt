@@ -67,12 +67,12 @@ after_event (Runs t) due b = b
 -- ---- which events may come
 
 -- the packet is on the queue
-abbrev pub stands_in : ℕ → List Entry → Bool
-stands_in p es = list_any (λ e. p == e.packet) es
+abbrev pub is_on_queue : ℕ → List Entry → Bool
+is_on_queue p es = list_any (λ e. p == e.packet) es
 
 -- the packet is on no queue
 abbrev pub IsNowhere : ℕ → Ledger → Type 0
-IsNowhere p b = (q : ℤ) → stands_in p (b q) ≡ false
+IsNowhere p b = (q : ℤ) → is_on_queue p (b q) ≡ false
 
 -- the packet is the first of the queue, from this sender
 abbrev pub IsFirst : ℕ → ℤ → List Entry → Type 0
@@ -84,7 +84,7 @@ IsFirst p s (e ∷ es) = (e.packet ≡ p) × (e.sender ≡ s)
 abbrev pub May : KernelEvent → Ledger → Type 0
 May (Accepted q p s) b = IsNowhere p b
 May (Taken q p s) b = IsFirst p s (b q)
-May (Dequeued q p) b = stands_in p (b q) ≡ true
+May (Dequeued q p) b = is_on_queue p (b q) ≡ true
 May (Runs t) b = Unit {0}
 
 -- ---- events one after the other
@@ -105,7 +105,7 @@ pub record AreOnce (b : Ledger) : Type 0 where
   -- none is twice on a queue
   pub once : (q : ℤ) (p : ℕ) → count_of p (b q) ≤ 1
   -- none is on two queues
-  pub one : (q r : ℤ) (p : ℕ) → stands_in p (b q) ≡ true → stands_in p (b r) ≡ true → q ≡ r
+  pub one : (q r : ℤ) (p : ℕ) → is_on_queue p (b q) ≡ true → is_on_queue p (b r) ≡ true → q ≡ r
 
 -- due ticks never fall along a queue
 abbrev pub NeverFall : List Entry → Type 0

@@ -68,7 +68,7 @@ pub fn shell_law()
     ensures moves { (due : KernelEvent → ℕ) (s : List ℕ) (l : Lists) (sh : Shell) (d : Disc) → HoldsLists s l
         → RunsResident l
         → l.running ≡ SHELL
-        → Moves due l (shell_turn s l sh d).events (shell_turn s l sh d).standing.lists }
+        → Moves due l (shell_turn s l sh d).events (shell_turn s l sh d).store.lists }
     ensures senders { (s : List ℕ) (l : Lists) (sh : Shell) (d : Disc) → HoldsLists s l → RunsResident l
         → l.running ≡ SHELL
         → AreOfTurn (signed l.running) (shell_turn s l sh d).events }

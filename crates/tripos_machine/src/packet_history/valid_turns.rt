@@ -43,7 +43,7 @@ pub fn console_law()
 pub fn shell_law()
     ensures { (s : List ℕ) (l : Lists) (sh : Shell) (d : Disc) → HoldsLists s l → RunsResident l
         → l.running ≡ SHELL
-        → AreValid (shell_turn s l sh d).standing.lists }
+        → AreValid (shell_turn s l sh d).store.lists }
 {}
 
 /// So the turn of each resident leaves valid lists.

@@ -3,8 +3,8 @@ use Rattle.std.proofs.lemmas.Result.{err_from_is_err_and}
 use Rattle.kernel_model.specs.KernelRecord.Lists.{Lists}
 use Rattle.kernel_calls.specs.TaskCalls.CreateTask.{create_task}
 use Rattle.kernel_boot.specs.BootTasks.{IsLeft, start_task}
-use Rattle.kernel_model.specs.KernelRecord.Standing.{standing}
-use Rattle.kernel_boot.proofs.StandingKernels.{begun-is, created-is}
+use Rattle.kernel_model.specs.KernelRecord.StoreWithLists.{store_with_lists}
+use Rattle.kernel_boot.proofs.StoresAfterCalls.{begun-is, created-is}
 use Rattle.kernel_boot.proofs.StartedTasks.{guest-away, guest-created, may-create}
 use Rattle.kernel_boot.proofs.tasks.start_task.Goals as goal
 
@@ -39,11 +39,11 @@ returns-in_err-id-clause-started g c = λ l k may.
     let away = guest-away l id c.guest.result (c.guest.ensures l k.lists) may.low (sym c.is_ok.ensures.value ∙ c.if-is_ok.false) in
     let x = c.in_ok-modules.ensures.loaded l k in
     let create = may-create d id names s u l x.0 c.in_ok-modules.modules.items modules may away c.as_slice.ensures.value x.1 in
-    let loaded = x.1 ∙ ap (λ ms. Ok (ms, standing u x.0)) (sym c.as_slice.ensures.value) in
+    let loaded = x.1 ∙ ap (λ ms. Ok (ms, store_with_lists u x.0)) (sym c.as_slice.ensures.value) in
     let code : ℕ = c.in_err-id.field-0.0 in
     let p = err_from_is_err_and c.from_residual-in_err-id.result c.from_residual-in_err-id.ensures.1 in
     let made = c.in_err-id.ensures.made x.0 x.2 create in
-    subst (λ (r : Result (Unit {0}) ℕ). IsLeft v tells room r (start_task d id pri stack names (standing s l))) (sym p.1)
+    subst (λ (r : Result (Unit {0}) ℕ). IsLeft v tells room r (start_task d id pri stack names (store_with_lists s l))) (sym p.1)
     (created-is d id pri stack names s l away u v x.0 modules tells (Err code) loaded made ∙ ap Err (sym p.2))
 
 pub begin_task-requires : goal.begin_task-requires
@@ -83,7 +83,7 @@ returns-clause-started g c = λ l k may.
     let away = guest-away l id c.guest.result (c.guest.ensures l k.lists) may.low (sym c.is_ok.ensures.value ∙ c.if-is_ok.false) in
     let x = c.in_ok-modules.ensures.loaded l k in
     let create = may-create d id names s u l x.0 c.in_ok-modules.modules.items modules may away c.as_slice.ensures.value x.1 in
-    let loaded = x.1 ∙ ap (λ ms. Ok (ms, standing u x.0)) (sym c.as_slice.ensures.value) in
+    let loaded = x.1 ∙ ap (λ ms. Ok (ms, store_with_lists u x.0)) (sym c.as_slice.ensures.value) in
     let n : ℕ = c.in_ok-id.id in
     let made = c.in_ok-id.ensures.made x.0 x.2 create in
     let guest = guest-created u x.0 id modules stack pri 0 n may.low (sym made.leaves.answered) in

@@ -1,9 +1,9 @@
 use Rattle.std.proofs.Common.{◌∙◌, ℕ, List, sym}
 use Rattle.std.proofs.lemmas.List.{at_drop_all}
 use Rattle.session_text.specs.declared.sessions.SessionLine.{SessionLine}
-use Rattle.kernel_model.specs.KernelRecord.Standing.{standing}
+use Rattle.kernel_model.specs.KernelRecord.StoreWithLists.{store_with_lists}
 use Rattle.kernel_boot.specs.BootTasks.{start_tasks}
-use Rattle.kernel_boot.proofs.StandingKernels.{line-started}
+use Rattle.kernel_boot.proofs.StoresAfterCalls.{line-started}
 use Rattle.kernel_boot.proofs.StartedTasks.{boot-form}
 use Rattle.kernel_boot.proofs.tasks.start_tasks.Goals as goal
 
@@ -30,6 +30,6 @@ pub returns-clause-started : goal.returns-clause-started
 returns-clause-started g c = λ l k boot.
     let before = c.loop-line.invariant.so_far l k boot in (
       before.0,
-      sym before.3 ∙ at_drop_all (λ ls. start_tasks c.args.disc.now ls (standing c.loop-line.store before.0)) c.args.lines.now c.loop-line.line-index c.loop-line-test.false,
+      sym before.3 ∙ at_drop_all (λ ls. start_tasks c.args.disc.now ls (store_with_lists c.loop-line.store before.0)) c.args.lines.now c.loop-line.line-index c.loop-line-test.false,
       before.1,
     )

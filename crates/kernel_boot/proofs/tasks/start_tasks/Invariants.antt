@@ -2,7 +2,7 @@ use Rattle.std.proofs.Common.{◌≡◌, drop}
 use Rattle.kernel_model.specs.KernelRecord.ChangedStore.{HasKeeper}
 use Rattle.kernel_model.specs.KernelRecord.Lists.{Lists}
 use Rattle.kernel_boot.specs.BootTasks.{AreBootLines, start_tasks}
-use Rattle.kernel_model.specs.KernelRecord.Standing.{standing}
+use Rattle.kernel_model.specs.KernelRecord.StoreWithLists.{store_with_lists}
 use Rattle.kernel_boot.proofs.tasks.start_tasks.Given as goal
 
 abbrev pub invariant-loop-line : goal.invariant-loop-line
@@ -12,5 +12,5 @@ invariant-loop-line g l = record {
       → AreBootLines h.version l.lines
       → (k : Lists) × HasKeeper l.store (g.Q.KindKeeper.tells l.kinds) (g.Q.KindKeeper.room l.kinds) k
       × (k.version ≡ h.version)
-      × (start_tasks l.disc (drop l.line-index l.lines) (standing l.store k) ≡ start_tasks l.disc l.lines (standing l.fn.store h));
+      × (start_tasks l.disc (drop l.line-index l.lines) (store_with_lists l.store k) ≡ start_tasks l.disc l.lines (store_with_lists l.fn.store h));
 }

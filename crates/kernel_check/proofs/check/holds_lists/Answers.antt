@@ -6,8 +6,8 @@ use Rattle.store_claims.proofs.AdoptionLaw.ClaimableStore.{from-claimable, to-cl
 use Rattle.kernel_check.proofs.WholeCheck.{refuse}
 use Rattle.kernel_check.proofs.check.holds_lists.Goals as goal
 
-pub returns-then-not-root_stands : goal.returns-then-not-root_stands
-returns-then-not-root_stands c = refuse c.args.store.now _ c.root_stands.result c.root_stands.ensures c.if-not-root_stands.true (λ p. p.root)
+pub returns-then-not-is_valid_root : goal.returns-then-not-is_valid_root
+returns-then-not-is_valid_root c = refuse c.args.store.now _ c.is_valid_root.result c.is_valid_root.ensures c.if-not-is_valid_root.true (λ p. p.root)
 
 pub returns-then-not-are_tiled : goal.returns-then-not-are_tiled
 returns-then-not-are_tiled c = refuse c.args.store.now _ c.are_tiled.result c.are_tiled.ensures c.if-not-are_tiled.true (λ p. p.tiled)
@@ -30,7 +30,7 @@ holds_claimed-requires c =
       are_open = c.open_blocks.ensures.used_data;
     } in
     record {
-      root = c.root_stands.ensures.0 c.if-not-root_stands.false;
+      root = c.is_valid_root.ensures.0 c.if-not-is_valid_root.false;
       tiled = c.are_tiled.ensures.0 c.if-not-are_tiled.false;
       claims = to-claimable c.args.store.now c.open_blocks.new.claims d (c.claim_lists.ensures.0 c.if-not-claim_lists.false);
     }

@@ -45,14 +45,14 @@ finish_turn-requires-2 g c =
     let begins = done-begun c.args.store.now (g.Q.KindKeeper.tells c.args.kinds.now) (g.Q.KindKeeper.room c.args.kinds.now) (outside c.args.bytes.now (g.L.EventLog.noted c.args.log.now) (g.L.EventLog.has_failed c.args.log.now)) l c.args.state.now c.args.disc.now k r in
     let cleared = done-cleared begins c.clear_up.new.store (g.Q.KindKeeper.tells c.clear_up.new.kinds) (g.Q.KindKeeper.room c.clear_up.new.kinds) (c.clear_up.ensures.cleared l k r.runs.field) c.clear_up.ensures.room in
     let treated = c.treat_first.ensures.done _ _ cleared in
-    (_, treated.stands.keeper.lists, treated.runs)
+    (_, treated.represents.keeper.lists, treated.runs)
 
 pub returns-clause-turn : goal.returns-clause-turn
 returns-clause-turn g c = λ l k r.
     let begins = done-begun c.args.store.now (g.Q.KindKeeper.tells c.args.kinds.now) (g.Q.KindKeeper.room c.args.kinds.now) (outside c.args.bytes.now (g.L.EventLog.noted c.args.log.now) (g.L.EventLog.has_failed c.args.log.now)) l c.args.state.now c.args.disc.now k r in
     let cleared = done-cleared begins c.clear_up.new.store (g.Q.KindKeeper.tells c.clear_up.new.kinds) (g.Q.KindKeeper.room c.clear_up.new.kinds) (c.clear_up.ensures.cleared l k r.runs.field) c.clear_up.ensures.room in
     let treated = done-ends (c.treat_first.ensures.done _ _ cleared) c.if-treat_first.false in
-    turn-is (turn-ended treated c.finish_turn-2.new.store (c.finish_turn-2.ensures _ treated.stands.keeper.lists treated.runs)) _ (whole-turn c.args.store.now l c.args.state.now c.args.disc.now _ (sym c.in-Some.is ∙ c.first_packet.ensures l k.lists r.runs))
+    turn-is (turn-ended treated c.finish_turn-2.new.store (c.finish_turn-2.ensures _ treated.represents.keeper.lists treated.runs)) _ (whole-turn c.args.store.now l c.args.state.now c.args.disc.now _ (sym c.in-Some.is ∙ c.first_packet.ensures l k.lists r.runs))
 
 pub returns-clause-room : goal.returns-clause-room
 returns-clause-room g c =

@@ -14,7 +14,7 @@ returns-in-Some-clause-text g c =
     on-lists _ c.args.machine.now.state
     (λ l s. Gathers (holds c.args.out.now) (holds end.new.out) c.args.pending.now end.new.pending (kernel_counts (steps_of s) l.tick) end.result
     → Gathers (holds c.args.out.now) (holds end.new.out) c.args.pending.now end.new.pending (count_words s) end.result)
-    c.in-Some.ensures.stand (λ k text. text)
+    c.in-Some.ensures.represents (λ k text. text)
     (rw (c.steps-steps.ensures, c.root-tick.ensures) at end.ensures.text)
 
 pub returns-in-None-clause-text : goal.returns-in-None-clause-text
@@ -24,5 +24,5 @@ returns-in-None-clause-text g c =
     on-bare c.args.machine.now.state
     (λ s. Gathers (holds c.args.out.now) (holds end.new.out) c.args.pending.now end.new.pending (bare_counts (steps_of s)) end.result
     → Gathers (holds c.args.out.now) (holds end.new.out) c.args.pending.now end.new.pending (count_words s) end.result)
-    c.in-None.ensures.stand (λ m text. text)
+    c.in-None.ensures.represents (λ m text. text)
     (rw c.steps-steps.ensures at end.ensures.text)

@@ -6,7 +6,7 @@ use Rattle.state_text.proofs.KernelStates.{on-words, walks}
 use Rattle.state_text.proofs.states.gather_lists.Goals as goal
 
 pub gather_kernel-requires : goal.gather_kernel-requires
-gather_kernel-requires g c = walks _ c.args.machine.now.state c.in-Some.ensures.stand
+gather_kernel-requires g c = walks _ c.args.machine.now.state c.in-Some.ensures.represents
 
 pub returns-in-Some-clause-text : goal.returns-in-Some-clause-text
 returns-in-Some-clause-text g c =
@@ -16,4 +16,4 @@ returns-in-Some-clause-text g c =
     on-words _ c.args.machine.now.state
     (λ w l s. Gathers (holds c.args.out.now) (holds end.new.out) c.args.pending.now end.new.pending (kernel_text (name_in programs w) l (blocks_text s)) end.result
     → Gathers (holds c.args.out.now) (holds end.new.out) c.args.pending.now end.new.pending (lists_text programs s) end.result)
-    c.in-Some.ensures.stand (λ k text. text) end.ensures.text
+    c.in-Some.ensures.represents (λ k text. text) end.ensures.text

@@ -31,14 +31,14 @@ returns c =
     let s = c.args.session.now in
     let h : HasKernel s = record { lawful = c.requires; full = c.if-session.false } in
     let (x, is, booted) = c.in_ok-boot.ensures.boots in
-    let kernel = c.from_parts-machine.ensures.kernel x.kernel booted.stands booted.valid booted.goes in (
+    let kernel = c.from_parts-machine.ensures.kernel x.kernel booted.represents booted.valid booted.goes in (
       of_kernel x,
       boot-full s c.if-session.false ∙ ap kernel_booted is,
       record {
         state = ap (λ k. Full k) kernel;
         output = c.from_parts-machine.ensures.output;
         events = booted-events s h x is;
-        keys = c.from_parts-machine.ensures.keys ∙ all-to-come _ x.kernel booted.stands c.in_ok-boot.ensures.keys;
+        keys = c.from_parts-machine.ensures.keys ∙ all-to-come _ x.kernel booted.represents c.in_ok-boot.ensures.keys;
         steps = booted-steps s h x is;
         goes = booted.goes;
       },

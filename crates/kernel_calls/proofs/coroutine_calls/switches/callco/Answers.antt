@@ -12,4 +12,4 @@ pub returns : goal.returns
 returns c = λ l h is.
     subst (λ a. IsSwitched c.args.store.now c.call.new.store l c.call.new.regs a (callco l c.args.regs.now c.args.c c.args.v)) (sym c.coded.ensures)
     (callco-made c.args.store.now l c.caller-task.result h (c.caller-task.ensures l h is) c.args.regs.now c.call.new.store c.call.new.regs c.args.c c.args.v c.call.result
-    c.call.ensures.answer c.call.ensures.words c.call.ensures.regs c.call.ensures.active c.call.ensures.coroutines c.call.ensures.stand c.call.ensures.unchanged)
+    c.call.ensures.answer c.call.ensures.words c.call.ensures.regs c.call.ensures.active c.call.ensures.coroutines c.call.ensures.valid c.call.ensures.unchanged)

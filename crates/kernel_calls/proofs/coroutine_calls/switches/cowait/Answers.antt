@@ -12,4 +12,4 @@ pub returns : goal.returns
 returns c = λ l h is.
     subst (λ a. IsSwitched c.args.store.now c.wait.new.store l c.wait.new.regs a (cowait l c.args.regs.now c.args.v)) (sym c.coded.ensures)
     (cowait-made c.args.store.now l c.caller-task.result h (c.caller-task.ensures l h is) c.args.regs.now c.wait.new.store c.wait.new.regs c.args.v c.wait.result
-    c.wait.ensures.answer c.wait.ensures.words c.wait.ensures.regs c.wait.ensures.active c.wait.ensures.coroutines c.wait.ensures.stand c.wait.ensures.unchanged)
+    c.wait.ensures.answer c.wait.ensures.words c.wait.ensures.regs c.wait.ensures.active c.wait.ensures.coroutines c.wait.ensures.valid c.wait.ensures.unchanged)

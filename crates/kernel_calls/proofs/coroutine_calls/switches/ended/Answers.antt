@@ -13,4 +13,4 @@ ended-requires-clause-within c =
 pub returns : goal.returns
 returns c = λ l h is within.
     ended-made c.args.store.now l c.caller-task.result h (c.caller-task.ensures l h is) c.args.regs.now c.ended.new.store c.ended.new.regs within
-    c.ended.ensures.words c.ended.ensures.regs c.ended.ensures.active c.ended.ensures.coroutines c.ended.ensures.stand
+    c.ended.ensures.words c.ended.ensures.regs c.ended.ensures.active c.ended.ensures.coroutines c.ended.ensures.valid

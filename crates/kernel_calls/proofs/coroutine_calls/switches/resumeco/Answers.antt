@@ -12,4 +12,4 @@ pub returns : goal.returns
 returns c = λ l h is.
     subst (λ a. IsSwitched c.args.store.now c.resume.new.store l c.resume.new.regs a (resumeco l c.args.regs.now c.args.c c.args.v)) (sym c.coded.ensures)
     (resumeco-made c.args.store.now l c.caller-task.result h (c.caller-task.ensures l h is) c.args.regs.now c.resume.new.store c.resume.new.regs c.args.c c.args.v c.resume.result
-    c.resume.ensures.answer c.resume.ensures.words c.resume.ensures.regs c.resume.ensures.active c.resume.ensures.coroutines c.resume.ensures.stand c.resume.ensures.unchanged)
+    c.resume.ensures.answer c.resume.ensures.words c.resume.ensures.regs c.resume.ensures.active c.resume.ensures.coroutines c.resume.ensures.valid c.resume.ensures.unchanged)

@@ -15,11 +15,11 @@ use Rattle.kernel_model.specs.KernelRecord.NotedEvents.{NotesAll}
 use Rattle.kernel_model.proofs.KernelRecord.NotedInTurn.{notes-none, notes-one, notes-then}
 use Rattle.kernel_calls.proofs.CallAnswers.FoundTask.{Finds, TaskAt, find-task, reads}
 use Rattle.kernel_calls.specs.PacketCalls.Destinations.{queue_for}
-use Rattle.kernel_calls.specs.PacketCalls.PacketMoves.{stands_in}
+use Rattle.kernel_calls.specs.PacketCalls.PacketMoves.{is_on_queue}
 use Rattle.kernel_calls.specs.PacketCalls.QueueWords as moves
 use Rattle.kernel_calls.specs.declared.packet_calls.queues.Queue.{Queue}
 use Rattle.kernel_calls.specs.declared.packet_calls.queues.Queue.TheVariants.{Work}
-use Rattle.kernel_calls.proofs.PacketCalls.HeldPlaces.{HasFirst, has-at, stands-at}
+use Rattle.kernel_calls.proofs.PacketCalls.HeldPlaces.{HasFirst, has-at, valid-at}
 use Rattle.kernel_calls.specs.PacketCalls.Returned.{IsServed, first_returned, head_of, number_of, place_of}
 use Rattle.kernel_calls.specs.declared.packet_calls.returns.Device.{Device}
 use Rattle.kernel_calls.specs.declared.packet_calls.returns.Device.TheVariants.{Clock, Keyboard, Output}
@@ -36,7 +36,7 @@ head-same l Output = refl
 -- the queue of the device, and its first packet
 module _ (s : List ℕ) (l : Lists) (d : Device) (h : HoldsLists s l) (queue : Queue) (at : queue ≡ queue_for l (place_of d)) where
   has-queue : HasQueue s (moves.head_of queue)
-  has-queue = subst (λ q. HasQueue s (moves.head_of q)) (sym at) (stands-at s l (place_of d) h (device-place l d))
+  has-queue = subst (λ q. HasQueue s (moves.head_of q)) (sym at) (valid-at s l (place_of d) h (device-place l d))
 
   module _ (p : ℕ) (is : p ≡ get_or s (moves.head_of queue) 0) where
     first-read : p ≡ get_or s (head_of d) 0
@@ -66,8 +66,8 @@ module _ (s : List ℕ) (l : Lists) (d : Device) (h : HoldsLists s l) (queue : Q
       has-packet =
           subst (λ q. has p (queue_at s (moves.head_of q)) ≡ true) (sym at)
           (has-at s l (place_of d) h (device-place l d) p
-          ∙ ap (stands_in p) one.is
-          ∙ or_left (eqb p one.packet.address) (stands_in p one.back) (eq-eqb p one.packet.address (sym one.address)))
+          ∙ ap (is_on_queue p) one.is
+          ∙ or_left (eqb p one.packet.address) (is_on_queue p one.back) (eq-eqb p one.packet.address (sym one.address)))
 
       -- once it went out
       module _ (v : List ℕ) (from task res1 : ℕ) (out : v ≡ moves.unqueued s queue p) (number : from ≡ number_of d) (to : TaskAt l.tasks one.packet.sender task) where

@@ -19,5 +19,5 @@ returns-clause-active c = (after c).active
 pub returns-clause-coroutines : goal.returns-clause-coroutines
 returns-clause-coroutines c = (after c).list
 
-pub returns-clause-stand : goal.returns-clause-stand
-returns-clause-stand c = (after c).stand
+pub returns-clause-valid : goal.returns-clause-valid
+returns-clause-valid c = (after c).valid

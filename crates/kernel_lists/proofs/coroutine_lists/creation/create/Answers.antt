@@ -43,8 +43,8 @@ returns-clause-coroutines c = (after c).list
 pub returns-clause-active : goal.returns-clause-active
 returns-clause-active c = (after c).active
 
-pub returns-clause-stand : goal.returns-clause-stand
-returns-clause-stand c = (after c).stand
+pub returns-clause-valid : goal.returns-clause-valid
+returns-clause-valid c = (after c).valid
 
 pub returns-clause-blocks : goal.returns-clause-blocks
 returns-clause-blocks c =

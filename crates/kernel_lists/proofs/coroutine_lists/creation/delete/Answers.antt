@@ -57,8 +57,8 @@ returns-clause-coroutines c = (after c).list
 pub returns-clause-active : goal.returns-clause-active
 returns-clause-active c = (after c).active
 
-pub returns-clause-stand : goal.returns-clause-stand
-returns-clause-stand c = (after c).stand
+pub returns-clause-valid : goal.returns-clause-valid
+returns-clause-valid c = (after c).valid
 
 pub returns-clause-blocks : goal.returns-clause-blocks
 returns-clause-blocks c = ap blocks_in (words c) ∙ delete-blocks c.args.store.now c.args.t c.args.c c.requires (idle c.args.store.now c.args.t c.args.c _ c.in_ok-check_idle.ensures).known

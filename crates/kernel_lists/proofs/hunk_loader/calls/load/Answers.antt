@@ -30,4 +30,4 @@ returns-clause-first g c =
 pub returns-clause-modules : goal.returns-clause-modules
 returns-clause-modules g c =
     let k = taken_for _ _ _ _ _ _ c.requires.tiled c.in-Ok.ensures c.last_word.ensures c.in-Ok-take.ensures.taken in
-    (done _ _ _ _ _ _ _ _ c.requires k c.root-link.ensures (c.place_module.ensures k.found.hunks k.fits) c.set_root.ensures).stands
+    (done _ _ _ _ _ _ _ _ c.requires k c.root-link.ensures (c.place_module.ensures k.found.hunks k.fits) c.set_root.ensures).valid

@@ -10,7 +10,7 @@ use Rattle.kernel_lists.proofs.LinkedList.Walks.{can_walk, no_offset}
 use Rattle.kernel_lists.specs.TaskBlock.Lists.{module_link, modules_in}
 use Rattle.kernel_lists.specs.HunkLoader.Modules.{HasModules}
 use Rattle.kernel_lists.proofs.HunkLoader.ModuleBlocks.{linked, one_word}
-use Rattle.kernel_lists.proofs.HunkLoader.UnloadedModules.{out_linked, unload_stands}
+use Rattle.kernel_lists.proofs.HunkLoader.UnloadedModules.{modules_unloaded, out_linked}
 use Rattle.kernel_lists.proofs.hunk_loader.calls.unload.Goals as goal
 
 walk : (s : List ℕ) (head : ℕ) → HasModules s → head ≡ 104 → CanWalk s (λ q. q + 0) head
@@ -57,10 +57,10 @@ pub returns-clause-words : goal.returns-clause-words
 returns-clause-words c = words c
 
 pub returns-clause-without : goal.returns-clause-without
-returns-clause-without c = (unload_stands c.args.store.now c.give.new.store c.args.m c.requires (listed c) (words c)).modules
+returns-clause-without c = (modules_unloaded c.args.store.now c.give.new.store c.args.m c.requires (listed c) (words c)).modules
 
 pub returns-clause-modules : goal.returns-clause-modules
-returns-clause-modules c = (unload_stands c.args.store.now c.give.new.store c.args.m c.requires (listed c) (words c)).stands
+returns-clause-modules c = (modules_unloaded c.args.store.now c.give.new.store c.args.m c.requires (listed c) (words c)).valid
 
 pub returns-clause-blocks : goal.returns-clause-blocks
 returns-clause-blocks c =

@@ -13,5 +13,5 @@ after c =
 pub returns-clause-queue : goal.returns-clause-queue
 returns-clause-queue c = (after c).list
 
-pub returns-clause-stands : goal.returns-clause-stands
-returns-clause-stands c = (after c).stands
+pub returns-clause-valid : goal.returns-clause-valid
+returns-clause-valid c = (after c).valid

@@ -42,5 +42,5 @@ returns-clause-words c = (after c).words
 pub returns-clause-queue : goal.returns-clause-queue
 returns-clause-queue c = (after c).queue.list
 
-pub returns-clause-stands : goal.returns-clause-stands
-returns-clause-stands c = (after c).queue.stands
+pub returns-clause-valid : goal.returns-clause-valid
+returns-clause-valid c = (after c).queue.valid

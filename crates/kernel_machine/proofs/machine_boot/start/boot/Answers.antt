@@ -10,20 +10,20 @@ use Rattle.kernel_machine.proofs.machine_boot.start.boot.Goals as goal
 pub put_lines-requires : goal.put_lines-requires
 put_lines-requires c =
     let s : Session = c.args.session.now in
-    (first_kernel s, c.in_ok-parts.ensures.stands, first-loads s c.requires c.as_slice.result.now c.as_slice.ensures)
+    (first_kernel s, c.in_ok-parts.ensures.represents, first-loads s c.requires c.as_slice.result.now c.as_slice.ensures)
 
 pub returns-in-Err-clause-boots : goal.returns-in-Err-clause-boots
 returns-in-Err-clause-boots c =
     let s : Session = c.args.session.now in
     let loads = first-loads s c.requires c.as_slice.result.now c.as_slice.ensures in
-    boot-refused s c.in-Err.refusal (ap (λ ls. with_lines ls (first_kernel s)) (sym c.as_slice.ensures) ∙ c.in-Err.ensures.reached (first_kernel s) c.in_ok-parts.ensures.stands loads)
+    boot-refused s c.in-Err.refusal (ap (λ ls. with_lines ls (first_kernel s)) (sym c.as_slice.ensures) ∙ c.in-Err.ensures.reached (first_kernel s) c.in_ok-parts.ensures.represents loads)
 
 pub dispatch-requires : goal.dispatch-requires
 dispatch-requires c =
     let s : Session = c.args.session.now in
     let k : Kernel = first_kernel s in
     let loads = first-loads s c.requires c.as_slice.result.now c.as_slice.ensures in
-    let loaded = reached-kernel c.put_lines.new.parts c.put_lines.result (with_lines c.as_slice.result.now k) c.in_default.not-Err (c.put_lines.ensures.reached k c.in_ok-parts.ensures.stands loads) in
+    let loaded = reached-kernel c.put_lines.new.parts c.put_lines.result (with_lines c.as_slice.result.now k) c.in_default.not-Err (c.put_lines.ensures.reached k c.in_ok-parts.ensures.represents loads) in
     let is : with_lines s.lines k ≡ Ok loaded.0 = ap (λ ls. with_lines ls k) (sym c.as_slice.ensures) ∙ loaded.1 in
     (loaded.0, loaded.2, begun-dispatches s c.requires loaded.0 (lines-begun s c.requires k loaded.0 (first-begun s) is))
 
@@ -32,15 +32,15 @@ returns-clause-boots c =
     let s : Session = c.args.session.now in
     let k : Kernel = first_kernel s in
     let loads = first-loads s c.requires c.as_slice.result.now c.as_slice.ensures in
-    let loaded = reached-kernel c.put_lines.new.parts c.put_lines.result (with_lines c.as_slice.result.now k) c.in_default.not-Err (c.put_lines.ensures.reached k c.in_ok-parts.ensures.stands loads) in
+    let loaded = reached-kernel c.put_lines.new.parts c.put_lines.result (with_lines c.as_slice.result.now k) c.in_default.not-Err (c.put_lines.ensures.reached k c.in_ok-parts.ensures.represents loads) in
     let is : with_lines s.lines k ≡ Ok loaded.0 = ap (λ ls. with_lines ls k) (sym c.as_slice.ensures) ∙ loaded.1 in
     let begun = lines-begun s c.requires k loaded.0 (first-begun s) is in
-    let stands = c.dispatch.ensures.stands loaded.0 loaded.2 (begun-dispatches s c.requires loaded.0 begun) in (
+    let represents = c.dispatch.ensures.represents loaded.0 loaded.2 (begun-dispatches s c.requires loaded.0 begun) in (
       started loaded.0,
       boot-ok s loaded.0 is,
       record {
-        stands = stands;
-        valid = booted-full s c.requires loaded.0 begun stands.keeper.lists.valid stands.plain;
+        represents = represents;
+        valid = booted-full s c.requires loaded.0 begun represents.keeper.lists.valid represents.plain;
         goes = booted-goes s c.requires loaded.0 begun;
       },
     )

@@ -9,14 +9,14 @@ use Rattle.kernel_model.proofs.KernelRecord.WalkedLists.{can-walk}
 use Rattle.kernel_model.specs.WordKinds.ByteMap.{MarksAll}
 use Rattle.kernel_model.specs.WordKinds.Keeper.{IsStoreOf}
 use Rattle.kernel_machine.specs.MachineBoot.Boot.{first_lists}
-use Rattle.kernel_machine.proofs.MachineBoot.FirstParts.{made-changed, made-ok, made-stands}
+use Rattle.kernel_machine.proofs.MachineBoot.FirstParts.{made-changed, made-ok, made-represents}
 use Rattle.kernel_machine.proofs.machine_boot.start.empty_machine.Goals as goal
 
 pub of_store-requires : goal.of_store-requires
 of_store-requires c = can-walk _ _ c.make_lists.ensures.lists
 
-pub returns-clause-stands : goal.returns-clause-stands
-returns-clause-stands c =
+pub returns-clause-represents : goal.returns-clause-represents
+returns-clause-represents c =
     let s : Session = c.args.session.now in
     let t = c.make_lists.new.store in
     let size : length c.in_ok-kinds.kinds ≡ length t =
@@ -25,7 +25,7 @@ returns-clause-stands c =
     made-ok (λ (k : List Bool). (known : List ℕ) (l : Lists) → IsStoreOf t known l → MarksAll k known) _ c.of_store.result c.in_ok-kinds.kinds c.in_ok-kinds.ensures.cases
     c.in_ok-kinds.ensures.variant c.of_store.ensures.marks
     in
-    made-stands s _
+    made-represents s _
     (record {
       store = made-changed s.store (first_lists s) c.in_ok-store.store c.make_lists.new.store c.store.inside.words.items c.in_ok-store.ensures c.store.view_is c.make_lists.ensures;
       marks = λ known l is. marks known l (subst (λ t. IsStoreOf t known l) c.store.view_is is);

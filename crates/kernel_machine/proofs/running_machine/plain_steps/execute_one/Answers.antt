@@ -34,10 +34,10 @@ returns-in-Next-clause-step c =
     let t = c.execute_guest.new.store in
     let r = c.execute_guest.new.regs in
     let k = kernel_of p None in
-    let guest : is_guest_id k.lists.running ≡ true = le-leb 5 k.lists.running (omega (arith, c.running.ensures k.lists w.stands.keeper.lists, c.if-running-lt-FIRST_GUEST.false)) in
+    let guest : is_guest_id k.lists.running ≡ true = le-leb 5 k.lists.running (omega (arith, c.running.ensures k.lists w.represents.keeper.lists, c.if-running-lt-FIRST_GUEST.false)) in
     let quiet : IsQuietFor 1 k =
     quiet-all p w 1 (c.serves_now.ensures.none c.if-serves_now.false) (c.before_key.ensures.later 1 (omega arith) (omega (arith, c.min.ensures, c.if-min-eq0.false))) (c.before_return.ensures.later 1 (omega (arith, c.min.ensures, c.if-min-eq0.false))) in
-    let few : k.steps + 1 ≤ most_steps = omega (arith, c.requires.steps, w.stands.steps) in
+    let few : k.steps + 1 ≤ most_steps = omega (arith, c.requires.steps, w.represents.steps) in
     subst (λ (q : Parts). HasPassed 1 k q × DifferBeside c.written_places-places.result p.store q.store) (sym c.count.ensures)
     (passed-one p w t r c.execute_guest.result y.outcome y.words y.regs y.lists guest quiet few c.in-Next.is, differ-one p w t r c.execute_guest.result y.outcome y.words y.regs y.lists c.written_places-places.result _ c.written_places-places.ensures)
 

@@ -4,7 +4,7 @@ use Rattle.kernel_machine.proofs.running_machine.residents.console.Goals as goal
 
 pub console_turn-requires-clause-console : goal.console_turn-requires-clause-console
 console_turn-requires-clause-console g c =
-    let (k, st, r) = c.requires.stands in
+    let (k, st, r) = c.requires.represents in
     (k.lists, st.keeper, runs-console c.args.parts.now k st r)
 
 pub returns-clause-turned : goal.returns-clause-turned

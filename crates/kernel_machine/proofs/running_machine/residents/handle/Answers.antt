@@ -1,5 +1,5 @@
 use Rattle.std.proofs.Common.{◌∙◌, sym}
-use Rattle.kernel_machine.proofs.RunningMachine.PartsBeside.{stands-buffer}
+use Rattle.kernel_machine.proofs.RunningMachine.PartsBeside.{represents-buffer}
 use Rattle.kernel_machine.proofs.RunningMachine.ResidentParts.{leaves-file, leaves-pipe, runs-handler, takes-pipes}
 use Rattle.kernel_machine.proofs.running_machine.residents.handle.Goals as goal
 
@@ -23,4 +23,4 @@ pub returns-clause-turned : goal.returns-clause-turned
 returns-clause-turned g c = λ k st r.
     let runs = runs-handler c.args.parts.now k st r in
     let x = c.file_turn.ensures in
-    leaves-file (record c.args.parts.now { bytes = c.file_turn.new.bytes }) k (stands-buffer c.args.parts.now k c.file_turn.new.bytes st) r _ _ _ _ _ (x.turn k.lists c.args.bytes.now st.keeper runs) x.room (x.disc k.lists st.keeper runs) (sym (c.serves_pipes.ensures k.lists st.keeper.lists runs.runs) ∙ c.if-serves_pipes.false)
+    leaves-file (record c.args.parts.now { bytes = c.file_turn.new.bytes }) k (represents-buffer c.args.parts.now k c.file_turn.new.bytes st) r _ _ _ _ _ (x.turn k.lists c.args.bytes.now st.keeper runs) x.room (x.disc k.lists st.keeper runs) (sym (c.serves_pipes.ensures k.lists st.keeper.lists runs.runs) ∙ c.if-serves_pipes.false)

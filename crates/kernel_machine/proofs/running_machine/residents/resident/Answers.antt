@@ -9,7 +9,7 @@ use Rattle.kernel_machine.proofs.running_machine.residents.resident.Goals as goa
 
 pub returns-in-3-clause-room : goal.returns-in-3-clause-room
 returns-in-3-clause-room g c =
-    let (k, st, r) = c.requires.stands in
+    let (k, st, r) = c.requires.represents in
     let left = c.console.ensures.turned k st (record { can = r.can; is = sym r.is ∙ c.in-3.is }) in
     omega (arith, ap length left.bytes, length-append c.args.bytes.now (console_step k).bytes, console-bytes k, ap length c.requires.empty)
 

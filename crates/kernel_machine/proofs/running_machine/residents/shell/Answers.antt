@@ -4,7 +4,7 @@ use Rattle.kernel_machine.proofs.RunningMachine.ResidentParts.{leaves-shell, run
 use Rattle.kernel_machine.proofs.running_machine.residents.shell.Goals as goal
 
 pub shell_turn-finished-requires-clause-shell : goal.shell_turn-finished-requires-clause-shell
-shell_turn-finished-requires-clause-shell g c = (let (k, st, r) = c.requires.stands in (k.lists, st.keeper, runs-shell c.args.parts.now k st r))
+shell_turn-finished-requires-clause-shell g c = (let (k, st, r) = c.requires.represents in (k.lists, st.keeper, runs-shell c.args.parts.now k st r))
 
 pub returns-then-finished-clause-turned : goal.returns-then-finished-clause-turned
 returns-then-finished-clause-turned g c = λ k st r.

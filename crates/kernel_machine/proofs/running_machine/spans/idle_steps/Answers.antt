@@ -16,6 +16,6 @@ returns-clause-quiet c = λ n few.
     let p = c.args.parts.now in
     let w = c.requires in
     let k = kernel_of p None in
-    let nobody : k.lists.running ≡ 0 = sym (c.running.ensures k.lists w.stands.keeper.lists) ∙ c.if-running-ne0.false in
+    let nobody : k.lists.running ≡ 0 = sym (c.running.ensures k.lists w.represents.keeper.lists) ∙ c.if-running-ne0.false in
     idle-quiet p w n nobody
     (λ some. quiet-all p w n (c.serves_now.ensures.none c.if-serves_now.false) (c.before_key.ensures.later n some (omega (arith, few, c.min.ensures))) (c.before_return.ensures.later n (omega (arith, few, c.min.ensures))))

@@ -29,7 +29,7 @@ pub returns-then-task-eq0-clause-before : goal.returns-then-task-eq0-clause-befo
 returns-then-task-eq0-clause-before c = λ i some low.
     let p = c.args.parts.now in
     let w = c.requires.whole in
-    let none : (kernel_of p None).lists.running ≡ 0 = sym (c.running-task.ensures (kernel_of p None).lists w.stands.keeper.lists) ∙ c.if-task-eq0.true in
+    let none : (kernel_of p None).lists.running ≡ 0 = sym (c.running-task.ensures (kernel_of p None).lists w.represents.keeper.lists) ∙ c.if-task-eq0.true in
     idle-met c.args.breakpoints.now (run i (kernel_of p None)).kernel
     (idle-behind p w i none
     (quiet-all p w i (c.serves_now.ensures.none c.if-serves_now.false) (c.before_key.ensures.later i some (omega (arith, low, c.min-quiet.ensures, c.min.ensures))) (c.before_return.ensures.later i (omega (arith, low, c.min-quiet.ensures, c.min.ensures)))))

@@ -4,9 +4,9 @@ use Rattle.kernel_machine.proofs.RunningMachine.LeftParts.{leaves-none}
 use Rattle.kernel_machine.proofs.RunningMachine.StepParts.{step-stays}
 use Rattle.kernel_machine.proofs.running_machine.steps.step_or_stay.Goals as goal
 
-pub step-requires-clause-stands : goal.step-requires-clause-stands
-step-requires-clause-stands g c =
-    let (k, st, h, same, few) = c.requires.stands in
+pub step-requires-clause-represents : goal.step-requires-clause-represents
+step-requires-clause-represents g c =
+    let (k, st, h, same, few) = c.requires.represents in
     (k, st, h, sym same ∙ c.in-None.is, few)
 
 pub returns-in-Some-clause-stepped : goal.returns-in-Some-clause-stepped

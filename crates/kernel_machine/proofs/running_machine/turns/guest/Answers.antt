@@ -18,7 +18,7 @@ returns-in_default-clause-stop g c = λ k st r.
 
 pub is_recorded-requires : goal.is_recorded-requires
 is_recorded-requires g c =
-    let (k, st, r) = c.requires.stands in
+    let (k, st, r) = c.requires.represents in
     let is = c.guest_turn-end.ensures.turned k.lists st.keeper (runs-calls k.lists k.regs r.can.first r.can.lists r.guest) in
     ((turn_without_reporter c.args.parts.now.store k.lists c.args.parts.now.regs).lists, is.lists.lists)
 
@@ -39,7 +39,7 @@ returns-then-not-is_recorded-clause-stop g c = λ k st r.
 
 pub record_fault-requires : goal.record_fault-requires
 record_fault-requires g c =
-    let (k, st, r) = c.requires.stands in
+    let (k, st, r) = c.requires.represents in
     let is = c.guest_turn-end.ensures.turned k.lists st.keeper (runs-calls k.lists k.regs r.can.first r.can.lists r.guest) in
     let l = (turn_without_reporter c.args.parts.now.store k.lists c.args.parts.now.regs).lists in
     let some = sym (c.is_recorded.ensures l is.lists.lists) ∙ c.if-not-is_recorded.false in

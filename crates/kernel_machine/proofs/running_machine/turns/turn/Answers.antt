@@ -37,14 +37,14 @@ returns-clause-stop g c = λ k st can.
 
 pub returns-clause-disc : goal.returns-clause-disc
 returns-clause-disc g c =
-    let (k, st, can) = c.requires.stands in
+    let (k, st, can) = c.requires.represents in
     let is = c.running-task.ensures k.lists st.keeper.lists in
     let guest = guest-number c.running-task.result k.lists.running is (omega (arith, c.if-task-lt-FIRST_GUEST.false)) in
-    subst IsDisc (sym (c.guest.ensures.turned k st (record { can = can; is = is; guest = guest })).stands.disc) can.rules.disc.valid
+    subst IsDisc (sym (c.guest.ensures.turned k st (record { can = can; is = is; guest = guest })).represents.disc) can.rules.disc.valid
 
 pub returns-clause-room : goal.returns-clause-room
 returns-clause-room g c =
-    let (k, st, can) = c.requires.stands in
+    let (k, st, can) = c.requires.represents in
     let is = c.running-task.ensures k.lists st.keeper.lists in
     let guest = guest-number c.running-task.result k.lists.running is (omega (arith, c.if-task-lt-FIRST_GUEST.false)) in
     let left = c.guest.ensures.turned k st (record { can = can; is = is; guest = guest }) in

@@ -4,7 +4,7 @@ use Rattle.kernel_lists.specs.PacketQueue.Log.{Notes}
 use Rattle.kernel_lists.specs.declared.packet_queue.events.KernelEvent.TheVariants.{Taken}
 use Rattle.kernel_model.specs.KernelDispatch.Dispatch.{takes_packet}
 use Rattle.kernel_model.specs.KernelDispatch.DispatchWords.{takes_packet_by}
-use Rattle.kernel_model.proofs.KernelDispatch.TakenWork.{none-taken, one-taken, queue-stands, some-taken, takes-told}
+use Rattle.kernel_model.proofs.KernelDispatch.TakenWork.{none-taken, one-taken, some-taken, takes-told, valid-queue}
 use Rattle.kernel_model.proofs.kernel_dispatch.resumption.take_due.Goals as goal
 
 pub returns-then-not-takes_packet-clause-taken : goal.returns-then-not-takes_packet-clause-taken
@@ -15,7 +15,7 @@ returns-then-not-takes_packet-clause-taken g c = λ l w k n.
 
 pub take_work-requires-clause-queue : goal.take_work-requires-clause-queue
 take_work-requires-clause-queue g c =
-    queue-stands c.args.store.now (g.Q.KindKeeper.tells c.args.kinds.now) (g.Q.KindKeeper.room c.args.kinds.now) c.requires.0 c.requires.1 c.args.t c.requires.2 c.requires.3
+    valid-queue c.args.store.now (g.Q.KindKeeper.tells c.args.kinds.now) (g.Q.KindKeeper.room c.args.kinds.now) c.requires.0 c.requires.1 c.args.t c.requires.2 c.requires.3
 
 pub returns-in_default-clause-taken : goal.returns-in_default-clause-taken
 returns-in_default-clause-taken g c = λ l w k n.

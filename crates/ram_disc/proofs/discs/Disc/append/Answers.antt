@@ -52,7 +52,7 @@ after-requires c =
     let p = c.in-Some.place in
     let e : place_in ps c.args.stream ≡ Some p = sym c.place_at.ensures ∙ c.in-Some.is in
     let w : p.writes ≡ true = not-false p.writes c.if-not-place.false in
-    let st = k.stand (c.args.stream - 1) p (place-number ps c.args.stream p e).1 in
+    let st = k.streams (c.args.stream - 1) p (place-number ps c.args.stream p e).1 in
     omega (arith, st.within, size-kept ns s.contents us fs ps k p st.is_there, c.requires)
 
 pub invariant_of-self : goal.invariant_of-self

@@ -2,7 +2,7 @@ use Rattle.std.proofs.Common.{◌≡◌, [], ◌∷◌, ◌++◌, get_or, true, 
 use Rattle.std.specs.List.{list_any, remove}
 use Rattle.ram_disc.specs.Contents.{Empties}
 use Rattle.ram_disc.specs.Disc.{Disc}
-use Rattle.ram_disc.specs.Slots.{AreKept, disc_in, stands_on}
+use Rattle.ram_disc.specs.Slots.{AreKept, disc_in, is_on_slot}
 use Rattle.ram_disc.specs.DiscCalls.{after_delete}
 use Rattle.ram_disc.proofs.ChangeCalls.{delete-done, delete-missing, delete-used}
 use Rattle.ram_disc.proofs.KeptSlots.{keep-delete}
@@ -39,7 +39,7 @@ returns-then-is_open-clause-answer c =
     let ps = s.streams in
     let k = c.self.invariant in
     let at = c.in-Ok.ensures.place in
-    let some : list_any (stands_on (get_or us c.in-Ok.place 0)) ps ≡ true = ap (λ t. list_any (stands_on t) ps) (sym c.slot_at.ensures) ∙ sym c.is_open.ensures ∙ c.if-is_open.true in
+    let some : list_any (is_on_slot (get_or us c.in-Ok.place 0)) ps ≡ true = ap (λ t. list_any (is_on_slot t) ps) (sym c.slot_at.ensures) ∙ sym c.is_open.ensures ∙ c.if-is_open.true in
     subst (λ (d : Disc). Err 47 ≡ (after_delete d c.args.name.now).answer) c.self.view_is
     (sym (ap (λ o. o.answer) (delete-used ns s.contents us fs ps k c.args.name.now c.in-Ok.place at some)))
 
@@ -52,7 +52,7 @@ returns-then-is_open-clause-disc c =
     let ps = s.streams in
     let k = c.self.invariant in
     let at = c.in-Ok.ensures.place in
-    let some : list_any (stands_on (get_or us c.in-Ok.place 0)) ps ≡ true = ap (λ t. list_any (stands_on t) ps) (sym c.slot_at.ensures) ∙ sym c.is_open.ensures ∙ c.if-is_open.true in
+    let some : list_any (is_on_slot (get_or us c.in-Ok.place 0)) ps ≡ true = ap (λ t. list_any (is_on_slot t) ps) (sym c.slot_at.ensures) ∙ sym c.is_open.ensures ∙ c.if-is_open.true in
     subst (λ (d : Disc). d ≡ (after_delete d c.args.name.now).disc) c.self.view_is
     (sym (ap (λ o. o.disc) (delete-used ns s.contents us fs ps k c.args.name.now c.in-Ok.place at some)))
 
@@ -65,7 +65,7 @@ invariant_of-self c =
     let ps = s.streams in
     let k = c.self.invariant in
     let at = c.in-Ok.ensures.place in
-    let none : list_any (stands_on (get_or us c.in-Ok.place 0)) ps ≡ false = ap (λ t. list_any (stands_on t) ps) (sym c.slot_at.ensures) ∙ sym c.is_open.ensures ∙ c.if-is_open.false in
+    let none : list_any (is_on_slot (get_or us c.in-Ok.place 0)) ps ≡ false = ap (λ t. list_any (is_on_slot t) ps) (sym c.slot_at.ensures) ∙ sym c.is_open.ensures ∙ c.if-is_open.false in
     let empties : Empties s.contents c.clear.new.self (get_or us c.in-Ok.place 0) = subst (Empties s.contents c.clear.new.self) c.remove-slot.ensures.slot c.clear.ensures in
     let r = c.remove-slot in
     let kept : AreKept ns c.clear.new.self (remove us c.in-Ok.place) (fs ++ get_or us c.in-Ok.place 0 ∷ []) ps = keep-delete ns s.contents us fs ps c.clear.new.self c.in-Ok.place k at.within none empties in
@@ -83,7 +83,7 @@ returns-clause-answer c =
     let ps = s.streams in
     let k = c.self.invariant in
     let at = c.in-Ok.ensures.place in
-    let none : list_any (stands_on (get_or us c.in-Ok.place 0)) ps ≡ false = ap (λ t. list_any (stands_on t) ps) (sym c.slot_at.ensures) ∙ sym c.is_open.ensures ∙ c.if-is_open.false in
+    let none : list_any (is_on_slot (get_or us c.in-Ok.place 0)) ps ≡ false = ap (λ t. list_any (is_on_slot t) ps) (sym c.slot_at.ensures) ∙ sym c.is_open.ensures ∙ c.if-is_open.false in
     let empties : Empties s.contents c.clear.new.self (get_or us c.in-Ok.place 0) = subst (Empties s.contents c.clear.new.self) c.remove-slot.ensures.slot c.clear.ensures in
     let r = c.remove-slot in
     subst (λ (d : Disc). Ok tt ≡ (after_delete d c.args.name.now).answer) c.self.view_is
@@ -98,7 +98,7 @@ returns-clause-disc c =
     let ps = s.streams in
     let k = c.self.invariant in
     let at = c.in-Ok.ensures.place in
-    let none : list_any (stands_on (get_or us c.in-Ok.place 0)) ps ≡ false = ap (λ t. list_any (stands_on t) ps) (sym c.slot_at.ensures) ∙ sym c.is_open.ensures ∙ c.if-is_open.false in
+    let none : list_any (is_on_slot (get_or us c.in-Ok.place 0)) ps ≡ false = ap (λ t. list_any (is_on_slot t) ps) (sym c.slot_at.ensures) ∙ sym c.is_open.ensures ∙ c.if-is_open.false in
     let empties : Empties s.contents c.clear.new.self (get_or us c.in-Ok.place 0) = subst (Empties s.contents c.clear.new.self) c.remove-slot.ensures.slot c.clear.ensures in
     let r = c.remove-slot in
     subst (λ (d : Disc). disc_in r.new.self.names.items c.clear.new.self.bytes r.new.self.used.items ps ≡ (after_delete d c.args.name.now).disc) c.self.view_is

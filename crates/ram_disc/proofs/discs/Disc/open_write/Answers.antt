@@ -3,7 +3,7 @@ use Rattle.std.specs.List.{insert, list_any, position}
 use Rattle.std.specs.Option.{is_none}
 use Rattle.ram_disc.specs.Contents.{Empties}
 use Rattle.ram_disc.specs.Disc.{Disc}
-use Rattle.ram_disc.specs.Slots.{AreKept, disc_in, stands_on}
+use Rattle.ram_disc.specs.Slots.{AreKept, disc_in, is_on_slot}
 use Rattle.ram_disc.specs.declared.places.Place.{Place}
 use Rattle.ram_disc.specs.DiscCalls.{after_open_write}
 use Rattle.ram_disc.proofs.Calls.{to-open}
@@ -19,7 +19,7 @@ returns-then-is_open-clause-answer c =
     let ps = s.streams in
     let k = c.self.invariant in
     let at = c.in-Ok.ensures.place in
-    let some : list_any (stands_on (get_or us c.in-Ok.place 0)) ps ≡ true = ap (λ t. list_any (stands_on t) ps) (sym c.slot_at-slot.ensures) ∙ sym c.is_open.ensures ∙ c.if-is_open.true in
+    let some : list_any (is_on_slot (get_or us c.in-Ok.place 0)) ps ≡ true = ap (λ t. list_any (is_on_slot t) ps) (sym c.slot_at-slot.ensures) ∙ sym c.is_open.ensures ∙ c.if-is_open.true in
     subst (λ (d : Disc). Err 47 ≡ (after_open_write d c.args.name.now).answer) c.self.view_is
     (sym (ap (λ o. o.answer) (write-used ns s.contents us fs ps k c.args.name.now c.in-Ok.place at some)))
 
@@ -32,7 +32,7 @@ returns-then-is_open-clause-disc c =
     let ps = s.streams in
     let k = c.self.invariant in
     let at = c.in-Ok.ensures.place in
-    let some : list_any (stands_on (get_or us c.in-Ok.place 0)) ps ≡ true = ap (λ t. list_any (stands_on t) ps) (sym c.slot_at-slot.ensures) ∙ sym c.is_open.ensures ∙ c.if-is_open.true in
+    let some : list_any (is_on_slot (get_or us c.in-Ok.place 0)) ps ≡ true = ap (λ t. list_any (is_on_slot t) ps) (sym c.slot_at-slot.ensures) ∙ sym c.is_open.ensures ∙ c.if-is_open.true in
     subst (λ (d : Disc). d ≡ (after_open_write d c.args.name.now).disc) c.self.view_is
     (sym (ap (λ o. o.disc) (write-used ns s.contents us fs ps k c.args.name.now c.in-Ok.place at some)))
 
@@ -45,7 +45,7 @@ returns-in_default-clause-answer c =
     let ps = s.streams in
     let k = c.self.invariant in
     let at = c.in-Ok.ensures.place in
-    let none : list_any (stands_on (get_or us c.in-Ok.place 0)) ps ≡ false = ap (λ t. list_any (stands_on t) ps) (sym c.slot_at-slot.ensures) ∙ sym c.is_open.ensures ∙ c.if-is_open.false in
+    let none : list_any (is_on_slot (get_or us c.in-Ok.place 0)) ps ≡ false = ap (λ t. list_any (is_on_slot t) ps) (sym c.slot_at-slot.ensures) ∙ sym c.is_open.ensures ∙ c.if-is_open.false in
     subst (λ (d : Disc). Err 45 ≡ (after_open_write d c.args.name.now).answer) c.self.view_is
     (sym (ap (λ o. o.answer) (write-full ns s.contents us fs ps k c.args.name.now c.in-Ok.place at none (sym c.free_stream.ensures ∙ c.in_default.is))))
 
@@ -58,7 +58,7 @@ returns-in_default-clause-disc c =
     let ps = s.streams in
     let k = c.self.invariant in
     let at = c.in-Ok.ensures.place in
-    let none : list_any (stands_on (get_or us c.in-Ok.place 0)) ps ≡ false = ap (λ t. list_any (stands_on t) ps) (sym c.slot_at-slot.ensures) ∙ sym c.is_open.ensures ∙ c.if-is_open.false in
+    let none : list_any (is_on_slot (get_or us c.in-Ok.place 0)) ps ≡ false = ap (λ t. list_any (is_on_slot t) ps) (sym c.slot_at-slot.ensures) ∙ sym c.is_open.ensures ∙ c.if-is_open.false in
     subst (λ (d : Disc). d ≡ (after_open_write d c.args.name.now).disc) c.self.view_is
     (sym (ap (λ o. o.disc) (write-full ns s.contents us fs ps k c.args.name.now c.in-Ok.place at none (sym c.free_stream.ensures ∙ c.in_default.is))))
 
@@ -115,7 +115,7 @@ invariant_of-self c =
     let ps = s.streams in
     let k = c.self.invariant in
     let at = c.in-Ok.ensures.place in
-    let none : list_any (stands_on (get_or us c.in-Ok.place 0)) ps ≡ false = ap (λ t. list_any (stands_on t) ps) (sym c.slot_at-slot.ensures) ∙ sym c.is_open.ensures ∙ c.if-is_open.false in
+    let none : list_any (is_on_slot (get_or us c.in-Ok.place 0)) ps ≡ false = ap (λ t. list_any (is_on_slot t) ps) (sym c.slot_at-slot.ensures) ∙ sym c.is_open.ensures ∙ c.if-is_open.false in
     let found : position is_none (take 16 ps) ≡ Some c.in-Some.k = sym c.free_stream.ensures ∙ c.in-Some.is in
     let i = c.in-Ok.place in
     let b = c.clear.new.self in
@@ -133,7 +133,7 @@ returns-in-Some-clause-answer c =
     let ps = s.streams in
     let k = c.self.invariant in
     let at = c.in-Ok.ensures.place in
-    let none : list_any (stands_on (get_or us c.in-Ok.place 0)) ps ≡ false = ap (λ t. list_any (stands_on t) ps) (sym c.slot_at-slot.ensures) ∙ sym c.is_open.ensures ∙ c.if-is_open.false in
+    let none : list_any (is_on_slot (get_or us c.in-Ok.place 0)) ps ≡ false = ap (λ t. list_any (is_on_slot t) ps) (sym c.slot_at-slot.ensures) ∙ sym c.is_open.ensures ∙ c.if-is_open.false in
     let found : position is_none (take 16 ps) ≡ Some c.in-Some.k = sym c.free_stream.ensures ∙ c.in-Some.is in
     let i = c.in-Ok.place in
     let b = c.clear.new.self in
@@ -151,7 +151,7 @@ returns-in-Some-clause-disc c =
     let ps = s.streams in
     let k = c.self.invariant in
     let at = c.in-Ok.ensures.place in
-    let none : list_any (stands_on (get_or us c.in-Ok.place 0)) ps ≡ false = ap (λ t. list_any (stands_on t) ps) (sym c.slot_at-slot.ensures) ∙ sym c.is_open.ensures ∙ c.if-is_open.false in
+    let none : list_any (is_on_slot (get_or us c.in-Ok.place 0)) ps ≡ false = ap (λ t. list_any (is_on_slot t) ps) (sym c.slot_at-slot.ensures) ∙ sym c.is_open.ensures ∙ c.if-is_open.false in
     let found : position is_none (take 16 ps) ≡ Some c.in-Some.k = sym c.free_stream.ensures ∙ c.in-Some.is in
     let i = c.in-Ok.place in
     let b = c.clear.new.self in

@@ -1,7 +1,7 @@
 use Rattle.std.proofs.Common.{◌≡◌, get_or, set, true, false, Ok, Err, sym, ap, ◌∙◌, subst}
 use Rattle.std.specs.List.{insert, list_any, remove}
 use Rattle.ram_disc.specs.Disc.{Disc}
-use Rattle.ram_disc.specs.Slots.{AreKept, HasPlace, disc_in, stands_on}
+use Rattle.ram_disc.specs.Slots.{AreKept, HasPlace, disc_in, is_on_slot}
 use Rattle.ram_disc.specs.DiscCalls.{after_rename}
 use Rattle.ram_disc.proofs.ChangeCalls.{place-without, rename-done, rename-missing, rename-there, rename-used}
 use Rattle.ram_disc.proofs.KeptSlots.{keep-rename}
@@ -62,7 +62,7 @@ returns-then-is_open-clause-answer c =
     let ps = s.streams in
     let k = c.self.invariant in
     let at = c.in-Ok.ensures.place in
-    let some : list_any (stands_on (get_or us c.in-Ok.place 0)) ps ≡ true = ap (λ t. list_any (stands_on t) ps) (sym c.slot_at.ensures) ∙ sym c.is_open.ensures ∙ c.if-is_open.true in
+    let some : list_any (is_on_slot (get_or us c.in-Ok.place 0)) ps ≡ true = ap (λ t. list_any (is_on_slot t) ps) (sym c.slot_at.ensures) ∙ sym c.is_open.ensures ∙ c.if-is_open.true in
     subst (λ (d : Disc). Err 47 ≡ (after_rename d c.args.from.now c.args.to.now).answer) c.self.view_is
     (sym (ap (λ o. o.answer) (rename-used ns s.contents us fs ps k c.args.from.now c.args.to.now c.in-Ok.place c.in-Err.end at c.in-Err.ensures.place some)))
 
@@ -75,7 +75,7 @@ returns-then-is_open-clause-disc c =
     let ps = s.streams in
     let k = c.self.invariant in
     let at = c.in-Ok.ensures.place in
-    let some : list_any (stands_on (get_or us c.in-Ok.place 0)) ps ≡ true = ap (λ t. list_any (stands_on t) ps) (sym c.slot_at.ensures) ∙ sym c.is_open.ensures ∙ c.if-is_open.true in
+    let some : list_any (is_on_slot (get_or us c.in-Ok.place 0)) ps ≡ true = ap (λ t. list_any (is_on_slot t) ps) (sym c.slot_at.ensures) ∙ sym c.is_open.ensures ∙ c.if-is_open.true in
     subst (λ (d : Disc). d ≡ (after_rename d c.args.from.now c.args.to.now).disc) c.self.view_is
     (sym (ap (λ o. o.disc) (rename-used ns s.contents us fs ps k c.args.from.now c.args.to.now c.in-Ok.place c.in-Err.end at c.in-Err.ensures.place some)))
 
@@ -88,7 +88,7 @@ invariant_of-self c =
     let ps = s.streams in
     let k = c.self.invariant in
     let at = c.in-Ok.ensures.place in
-    let none : list_any (stands_on (get_or us c.in-Ok.place 0)) ps ≡ false = ap (λ t. list_any (stands_on t) ps) (sym c.slot_at.ensures) ∙ sym c.is_open.ensures ∙ c.if-is_open.false in
+    let none : list_any (is_on_slot (get_or us c.in-Ok.place 0)) ps ≡ false = ap (λ t. list_any (is_on_slot t) ps) (sym c.slot_at.ensures) ∙ sym c.is_open.ensures ∙ c.if-is_open.false in
     let r = c.rename in
     let i = c.in-Ok.place in
     let t = get_or us i 0 in
@@ -108,7 +108,7 @@ returns-clause-answer c =
     let ps = s.streams in
     let k = c.self.invariant in
     let at = c.in-Ok.ensures.place in
-    let none : list_any (stands_on (get_or us c.in-Ok.place 0)) ps ≡ false = ap (λ t. list_any (stands_on t) ps) (sym c.slot_at.ensures) ∙ sym c.is_open.ensures ∙ c.if-is_open.false in
+    let none : list_any (is_on_slot (get_or us c.in-Ok.place 0)) ps ≡ false = ap (λ t. list_any (is_on_slot t) ps) (sym c.slot_at.ensures) ∙ sym c.is_open.ensures ∙ c.if-is_open.false in
     let r = c.rename in
     let i = c.in-Ok.place in
     let t = get_or us i 0 in
@@ -126,7 +126,7 @@ returns-clause-disc c =
     let ps = s.streams in
     let k = c.self.invariant in
     let at = c.in-Ok.ensures.place in
-    let none : list_any (stands_on (get_or us c.in-Ok.place 0)) ps ≡ false = ap (λ t. list_any (stands_on t) ps) (sym c.slot_at.ensures) ∙ sym c.is_open.ensures ∙ c.if-is_open.false in
+    let none : list_any (is_on_slot (get_or us c.in-Ok.place 0)) ps ≡ false = ap (λ t. list_any (is_on_slot t) ps) (sym c.slot_at.ensures) ∙ sym c.is_open.ensures ∙ c.if-is_open.false in
     let r = c.rename in
     let i = c.in-Ok.place in
     let t = get_or us i 0 in

@@ -3,7 +3,7 @@ use Rattle.resident_tasks.specs.ConsoleHandler.Deliveries.{line_service}
 use Rattle.kernel_calls.specs.CallAnswers.Outside.{outside}
 use Rattle.resident_tasks.specs.ConsoleHandler.Reads.{IsReadTaken, read_taken}
 use Rattle.resident_tasks.proofs.ConsoleHandler.DoneParts.{done-keeper, done-residents}
-use Rattle.resident_tasks.proofs.ConsoleHandler.HandedLines.{hand-done, hand-keeper, hand-kept, hand-number, hand-runs, hand-stands, nothing-done}
+use Rattle.resident_tasks.proofs.ConsoleHandler.HandedLines.{hand-done, hand-keeper, hand-kept, hand-number, hand-request, hand-runs, nothing-done}
 use Rattle.resident_tasks.proofs.console_handler.deliveries.deliver_first.Goals as goal
 
 pub returns-in_default-clause-done : goal.returns-in_default-clause-done
@@ -51,7 +51,7 @@ return_request-requires g c =
       hand-runs b c.args.store.now (g.Q.KindKeeper.tells c.args.kinds.now) (g.Q.KindKeeper.room c.args.kinds.now) now c.args.state.now c.args.shell_line.now.items p x
           c.take_read.new.store (g.Q.KindKeeper.tells c.take_read.new.kinds) (g.Q.KindKeeper.room c.take_read.new.kinds) (g.L.EventLog.noted c.take_read.new.log) (g.L.EventLog.has_failed c.take_read.new.log) c.take_read.ensures.room notes
           c.in-Some.read y,
-      hand-stands b c.args.store.now (g.Q.KindKeeper.tells c.args.kinds.now) (g.Q.KindKeeper.room c.args.kinds.now) now c.args.state.now c.args.shell_line.now.items p x
+      hand-request b c.args.store.now (g.Q.KindKeeper.tells c.args.kinds.now) (g.Q.KindKeeper.room c.args.kinds.now) now c.args.state.now c.args.shell_line.now.items p x
           c.take_read.new.store (g.Q.KindKeeper.tells c.take_read.new.kinds) (g.Q.KindKeeper.room c.take_read.new.kinds) (g.L.EventLog.noted c.take_read.new.log) (g.L.EventLog.has_failed c.take_read.new.log) c.take_read.ensures.room notes
           c.in-Some.read y _ _ serves c.write_buffer.new.store c.write_buffer.ensures.words,
       hand-number b c.args.store.now (g.Q.KindKeeper.tells c.args.kinds.now) (g.Q.KindKeeper.room c.args.kinds.now) now c.args.state.now c.args.shell_line.now.items p x
@@ -76,12 +76,12 @@ returns-clause-done g c = λ b shown p x.
     let kept = hand-kept b c.args.store.now (g.Q.KindKeeper.tells c.args.kinds.now) (g.Q.KindKeeper.room c.args.kinds.now) now c.args.state.now c.args.shell_line.now.items p x
     c.take_read.new.store (g.Q.KindKeeper.tells c.take_read.new.kinds) (g.Q.KindKeeper.room c.take_read.new.kinds) (g.L.EventLog.noted c.take_read.new.log) (g.L.EventLog.has_failed c.take_read.new.log) c.take_read.ensures.room notes
     c.in-Some.read y _ _ serves c.write_buffer.new.store c.write_buffer.ensures.words in
-    let stands = hand-stands b c.args.store.now (g.Q.KindKeeper.tells c.args.kinds.now) (g.Q.KindKeeper.room c.args.kinds.now) now c.args.state.now c.args.shell_line.now.items p x
+    let has-request = hand-request b c.args.store.now (g.Q.KindKeeper.tells c.args.kinds.now) (g.Q.KindKeeper.room c.args.kinds.now) now c.args.state.now c.args.shell_line.now.items p x
     c.take_read.new.store (g.Q.KindKeeper.tells c.take_read.new.kinds) (g.Q.KindKeeper.room c.take_read.new.kinds) (g.L.EventLog.noted c.take_read.new.log) (g.L.EventLog.has_failed c.take_read.new.log) c.take_read.ensures.room notes
     c.in-Some.read y _ _ serves c.write_buffer.new.store c.write_buffer.ensures.words in
     hand-done b c.args.store.now (g.Q.KindKeeper.tells c.args.kinds.now) (g.Q.KindKeeper.room c.args.kinds.now) now c.args.state.now c.args.shell_line.now.items p x
     c.take_read.new.store (g.Q.KindKeeper.tells c.take_read.new.kinds) (g.Q.KindKeeper.room c.take_read.new.kinds) (g.L.EventLog.noted c.take_read.new.log) (g.L.EventLog.has_failed c.take_read.new.log) c.take_read.ensures.room notes
     c.in-Some.read y _ _ serves c.write_buffer.new.store c.write_buffer.ensures.words
     c.return_request.new.store (g.Q.KindKeeper.tells c.return_request.new.kinds) (g.Q.KindKeeper.room c.return_request.new.kinds) (g.L.EventLog.noted c.return_request.new.log) (g.L.EventLog.has_failed c.return_request.new.log)
-    c.hand_line.new.state c.hand_line.new.shell_line.items (sym c.is_finished.ensures ∙ c.if-not-is_finished.false) c.return_request.ensures.room (c.return_request.ensures.made _ kept runs stands number)
-    (c.return_request.ensures.owns _ kept runs stands number) (c.return_request.ensures.runs _ runs) (c.return_request.ensures.notes _ kept runs stands number) c.hand_line.ensures.console c.hand_line.ensures.shell
+    c.hand_line.new.state c.hand_line.new.shell_line.items (sym c.is_finished.ensures ∙ c.if-not-is_finished.false) c.return_request.ensures.room (c.return_request.ensures.made _ kept runs has-request number)
+    (c.return_request.ensures.owns _ kept runs has-request number) (c.return_request.ensures.runs _ runs) (c.return_request.ensures.notes _ kept runs has-request number) c.hand_line.ensures.console c.hand_line.ensures.shell

@@ -2,7 +2,7 @@ use Rattle.std.proofs.Common.{◌∙◌, sym, subst, Some}
 use Rattle.word_store.specs.Arithmetic.{signed}
 use Rattle.kernel_lists.specs.PacketQueue.Log.{Notes}
 use Rattle.kernel_lists.specs.declared.packet_queue.events.KernelEvent.TheVariants.{Taken}
-use Rattle.kernel_calls.proofs.PacketCalls.HeldPlaces.{stands-at}
+use Rattle.kernel_calls.proofs.PacketCalls.HeldPlaces.{valid-at}
 use Rattle.kernel_model.specs.KernelRecord.ValidQueues.Place.{Pending}
 use Rattle.kernel_model.specs.declared.kernel_record.numbers.TheConstants.{PENDING}
 use Rattle.resident_tasks.specs.ConsoleHandler.Reads.{IsReadTaken}
@@ -10,7 +10,7 @@ use Rattle.resident_tasks.proofs.ConsoleHandler.WaitingReads.{none-noted, none-w
 use Rattle.resident_tasks.proofs.console_handler.reads.take_read.Goals as goal
 
 pub first-p-requires : goal.first-p-requires
-first-p-requires g c = stands-at c.args.store.now c.requires.0 Pending c.requires.1.lists c.requires.2
+first-p-requires g c = valid-at c.args.store.now c.requires.0 Pending c.requires.1.lists c.requires.2
 
 pub returns-then-p-eq0-clause-taken : goal.returns-then-p-eq0-clause-taken
 returns-then-p-eq0-clause-taken g c = λ l k residents.

@@ -28,7 +28,7 @@ put_off-requires g c =
       (taken p.lists).lists,
       request-keeper b c.args.store.now (g.Q.KindKeeper.tells c.args.kinds.now) (g.Q.KindKeeper.room c.args.kinds.now) now console k p x c.take_request.new.store (g.Q.KindKeeper.tells c.take_request.new.kinds)
           (g.Q.KindKeeper.room c.take_request.new.kinds) (g.L.EventLog.noted c.take_request.new.log) (g.L.EventLog.has_failed c.take_request.new.log) c.in-Some.request y c.take_request.ensures.room notes,
-      y.stands,
+      y.has_request,
       request-residents b c.args.store.now (g.Q.KindKeeper.tells c.args.kinds.now) (g.Q.KindKeeper.room c.args.kinds.now) now console k p x c.take_request.new.store (g.Q.KindKeeper.tells c.take_request.new.kinds)
           (g.Q.KindKeeper.room c.take_request.new.kinds) (g.L.EventLog.noted c.take_request.new.log) (g.L.EventLog.has_failed c.take_request.new.log) c.in-Some.request y c.take_request.ensures.room notes,
     )
@@ -46,7 +46,7 @@ returns-then-request-eq-READ_LINE-clause-done g c = λ b console k p x takes.
     read-done b c.args.store.now (g.Q.KindKeeper.tells c.args.kinds.now) (g.Q.KindKeeper.room c.args.kinds.now) now console k p x c.take_request.new.store (g.Q.KindKeeper.tells c.take_request.new.kinds)
     (g.Q.KindKeeper.room c.take_request.new.kinds) (g.L.EventLog.noted c.take_request.new.log) (g.L.EventLog.has_failed c.take_request.new.log) c.in-Some.request y c.take_request.ensures.room notes
     c.put_off.new.store (g.Q.KindKeeper.tells c.put_off.new.kinds) (g.Q.KindKeeper.room c.put_off.new.kinds) (g.L.EventLog.noted c.put_off.new.log) (g.L.EventLog.has_failed c.put_off.new.log) c.if-request-eq-READ_LINE.true c.put_off.ensures.room
-    (c.put_off.ensures.made _ held y.stands residents) (c.put_off.ensures.owns _ held y.stands residents) (c.put_off.ensures.notes _ held y.stands residents)
+    (c.put_off.ensures.made _ held y.has_request residents) (c.put_off.ensures.owns _ held y.has_request residents) (c.put_off.ensures.notes _ held y.has_request residents)
 
 pub return_request-requires : goal.return_request-requires
 return_request-requires g c =
@@ -64,7 +64,7 @@ return_request-requires g c =
       request-keeper b c.args.store.now (g.Q.KindKeeper.tells c.args.kinds.now) (g.Q.KindKeeper.room c.args.kinds.now) now console k p x c.take_request.new.store (g.Q.KindKeeper.tells c.take_request.new.kinds)
           (g.Q.KindKeeper.room c.take_request.new.kinds) (g.L.EventLog.noted c.take_request.new.log) (g.L.EventLog.has_failed c.take_request.new.log) c.in-Some.request y c.take_request.ensures.room notes,
       y.runs,
-      y.stands,
+      y.has_request,
       request-number b c.args.store.now (g.Q.KindKeeper.tells c.args.kinds.now) (g.Q.KindKeeper.room c.args.kinds.now) now console k p x c.take_request.new.store (g.Q.KindKeeper.tells c.take_request.new.kinds)
           (g.Q.KindKeeper.room c.take_request.new.kinds) (g.L.EventLog.noted c.take_request.new.log) (g.L.EventLog.has_failed c.take_request.new.log) c.in-Some.request y c.take_request.ensures.room notes,
     )
@@ -83,4 +83,4 @@ returns-clause-done g c = λ b console k p x takes.
     (g.Q.KindKeeper.room c.take_request.new.kinds) (g.L.EventLog.noted c.take_request.new.log) (g.L.EventLog.has_failed c.take_request.new.log) c.in-Some.request y c.take_request.ensures.room notes
     c.return_request.new.store (g.Q.KindKeeper.tells c.return_request.new.kinds) (g.Q.KindKeeper.room c.return_request.new.kinds) (g.L.EventLog.noted c.return_request.new.log) (g.L.EventLog.has_failed c.return_request.new.log)
     c.answer-answer.result c.answer-answer.new.bytes c.if-request-eq-READ_LINE.false c.answer-answer.ensures.answer c.answer-answer.ensures.bytes c.return_request.ensures.room
-    (c.return_request.ensures.made _ held y.runs y.stands number) (c.return_request.ensures.owns _ held y.runs y.stands number) (c.return_request.ensures.runs _ y.runs) (c.return_request.ensures.notes _ held y.runs y.stands number)
+    (c.return_request.ensures.made _ held y.runs y.has_request number) (c.return_request.ensures.owns _ held y.runs y.has_request number) (c.return_request.ensures.runs _ y.runs) (c.return_request.ensures.notes _ held y.runs y.has_request number)

@@ -6,7 +6,7 @@ use Rattle.kernel_model.proofs.KernelRecord.NotedInTurn.{notes-none}
 use Rattle.kernel_calls.proofs.CallAnswers.FoundTask.{reads}
 use Rattle.kernel_calls.proofs.PacketCalls.CallerTask.{caller-number}
 use Rattle.kernel_calls.specs.PacketCalls.QueueWords.{head_of}
-use Rattle.kernel_calls.proofs.PacketCalls.HeldPlaces.{stands-at}
+use Rattle.kernel_calls.proofs.PacketCalls.HeldPlaces.{valid-at}
 use Rattle.kernel_model.specs.KernelRecord.ValidQueues.Place.{Work}
 use Rattle.resident_tasks.specs.FaultReporter.Recorded.{events_where}
 use Rattle.resident_tasks.proofs.FaultReporter.FaultPacket.{not-sent, packet-noted, packet-sent, send-packet, send-queue, reporter-found, reporter-queue, waits-is}
@@ -25,7 +25,7 @@ pub has_packet-requires : goal.has_packet-requires
 has_packet-requires g c =
     let l = c.requires.0 in
     let h = c.requires.1 in
-    subst (λ q. HasQueue c.args.store.now (head_of q)) (sym (reporter-queue c.args.store.now l c.in-Some.reporter h (sym c.find.ensures ∙ c.in-Some.is))) (stands-at c.args.store.now l (Work 2) h c.requires.3)
+    subst (λ q. HasQueue c.args.store.now (head_of q)) (sym (reporter-queue c.args.store.now l c.in-Some.reporter h (sym c.find.ensures ∙ c.in-Some.is))) (valid-at c.args.store.now l (Work 2) h c.requires.3)
 
 pub returns-then-has_packet-clause-sent : goal.returns-then-has_packet-clause-sent
 returns-then-has_packet-clause-sent g c = λ l h k there.

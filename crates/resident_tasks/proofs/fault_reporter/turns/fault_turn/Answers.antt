@@ -41,7 +41,7 @@ serve_request-requires-clause-request g c =
       keeper-taken c.args.store.now c.take_request.new.store (g.Q.KindKeeper.tells c.args.kinds.now) (g.Q.KindKeeper.tells c.take_request.new.kinds) (g.Q.KindKeeper.room c.args.kinds.now)
           (g.Q.KindKeeper.room c.take_request.new.kinds) l (Some c.in-Some.request) k x c.take_request.ensures.room,
       x.runs,
-      x.stands,
+      x.has_request,
       sym r.reporter ∙ sym (taken-running l),
       inl (refl {a = []}),
     )
@@ -71,7 +71,7 @@ returns-in-Some-clause-turn g c = λ l k r.
     (turn-served c.args.store.now c.take_request.new.store c.serve_request.new.store l (g.Q.KindKeeper.tells c.serve_request.new.kinds) (g.Q.KindKeeper.tells c.take_request.new.kinds)
     unknown c.args.bytes.now (g.L.EventLog.noted c.args.log.now) (g.L.EventLog.noted c.take_request.new.log) (g.L.EventLog.noted c.serve_request.new.log)
     (g.L.EventLog.has_failed c.args.log.now) (g.L.EventLog.has_failed c.take_request.new.log) (g.L.EventLog.has_failed c.serve_request.new.log) c.in-Some.request x
-    (c.serve_request.ensures.served m k' x.runs x.stands from (inl (refl {a = []}))) (c.in-Some.ensures.notes l k takes) (c.serve_request.ensures.notes m k' x.runs x.stands from (inl (refl {a = []}))))
+    (c.serve_request.ensures.served m k' x.runs x.has_request from (inl (refl {a = []}))) (c.in-Some.ensures.notes l k takes) (c.serve_request.ensures.notes m k' x.runs x.has_request from (inl (refl {a = []}))))
 
 pub returns-in-None-clause-turn : goal.returns-in-None-clause-turn
 returns-in-None-clause-turn g c = λ l k r.

@@ -59,7 +59,7 @@ serve_request-requires-clause-request g c =
       (taken l).lists,
       k',
       x.runs,
-      x.stands,
+      x.has_request,
       sym (taken-running l ∙ f.is),
       subst (CanServe t (taken l).lists r) (sym (told d t (taken l).lists r c.file_request-answer.new.disc c.file_request-answer.result c.file_request-answer.new.bytes.items c.as_slice-bytes.result.now c.as_slice-bytes.ensures.value (c.file_request-answer.ensures (taken l).lists k')))
           (can-serve d t (taken l).lists r),
@@ -86,13 +86,13 @@ returns-in-Some-clause-turn g c = λ l shown k f.
     turn-served c.args.store.now t c.serve_request.new.store l (g.Q.KindKeeper.tells c.serve_request.new.kinds) (g.Q.KindKeeper.tells c.take_request.new.kinds) (file_service d) shown
     (g.L.EventLog.noted c.args.log.now) (g.L.EventLog.noted c.take_request.new.log) (g.L.EventLog.noted c.serve_request.new.log) (g.L.EventLog.has_failed c.args.log.now)
     (g.L.EventLog.has_failed c.take_request.new.log) (g.L.EventLog.has_failed c.serve_request.new.log) r x
-    (subst (IsServed t c.serve_request.new.store (g.Q.KindKeeper.tells c.serve_request.new.kinds) m r) is (c.serve_request.ensures.served m k' x.runs x.stands runs can))
+    (subst (IsServed t c.serve_request.new.store (g.Q.KindKeeper.tells c.serve_request.new.kinds) m r) is (c.serve_request.ensures.served m k' x.runs x.has_request runs can))
     (c.in-Some.ensures.notes l k takes)
     (subst
     (λ w. NotesAll (g.L.EventLog.noted c.take_request.new.log) (g.L.EventLog.noted c.serve_request.new.log) (g.L.EventLog.has_failed c.take_request.new.log) (g.L.EventLog.has_failed c.serve_request.new.log)
     (answered m r w.answer).events)
     is
-    (c.serve_request.ensures.notes m k' x.runs x.stands runs can))
+    (c.serve_request.ensures.notes m k' x.runs x.has_request runs can))
 
 pub returns-in-Some-clause-disc : goal.returns-in-Some-clause-disc
 returns-in-Some-clause-disc g c = λ l k f.

@@ -35,7 +35,7 @@ serve_request-requires-clause-request g c =
       m,
       k,
       x.runs,
-      x.stands,
+      x.has_request,
       c.requires.3 ∙ sym (taken-running l),
       subst (CanServe c.take_request.new.store m r) (sym same) (can-serve c.args.pipes.now c.take_request.new.store m r),
     )
@@ -59,11 +59,11 @@ returns-in-Some-clause-turn g c = λ l shown keeper takes from.
     (pipe_service c.args.pipes.now) shown (g.L.EventLog.noted c.args.log.now) (g.L.EventLog.noted c.take_request.new.log) (g.L.EventLog.noted c.serve_request.new.log)
     (g.L.EventLog.has_failed c.args.log.now) (g.L.EventLog.has_failed c.take_request.new.log) (g.L.EventLog.has_failed c.serve_request.new.log) r x
     (subst (IsServed c.take_request.new.store c.serve_request.new.store (g.Q.KindKeeper.tells c.serve_request.new.kinds) m r) same
-    (c.serve_request.ensures.served m k x.runs x.stands from' can)) (c.in-Some.ensures.notes l keeper takes)
+    (c.serve_request.ensures.served m k x.runs x.has_request from' can)) (c.in-Some.ensures.notes l keeper takes)
     (subst (λ (w : Served).
     NotesAll (g.L.EventLog.noted c.take_request.new.log) (g.L.EventLog.noted c.serve_request.new.log) (g.L.EventLog.has_failed c.take_request.new.log)
     (g.L.EventLog.has_failed c.serve_request.new.log) (answered m r w.answer).events) same
-    (c.serve_request.ensures.notes m k x.runs x.stands from' can))
+    (c.serve_request.ensures.notes m k x.runs x.has_request from' can))
 
 pub returns-in-None-clause-turn : goal.returns-in-None-clause-turn
 returns-in-None-clause-turn g c = λ l shown keeper takes from.

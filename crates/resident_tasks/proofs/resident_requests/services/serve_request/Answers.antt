@@ -12,7 +12,7 @@ answer_request-requires g c =
       l,
       keeper-written c.args.store.now c.write_buffer.new.store (g.Q.KindKeeper.tells c.args.kinds.now) (g.Q.KindKeeper.room c.args.kinds.now) l c.args.request (service c.args.answer c.args.at c.args.bytes.now) c.requires.request.1 x,
       c.requires.request.2,
-      x.stands,
+      x.has_request,
       ap word_of (to_z-of_z c.ranges.from) ∙ c.requires.request.4,
     )
 
@@ -23,12 +23,12 @@ returns-clause-served g c = λ l k runs h from can.
     let k' = keeper-written c.args.store.now c.write_buffer.new.store (g.Q.KindKeeper.tells c.args.kinds.now) (g.Q.KindKeeper.room c.args.kinds.now) l c.args.request w k x in
     let from' = ap word_of (to_z-of_z c.ranges.from) ∙ from in
     is-served c.args.store.now c.write_buffer.new.store c.answer_request.new.store (g.Q.KindKeeper.tells c.answer_request.new.kinds) l c.args.request w x
-    (c.answer_request.ensures.made l k' runs x.stands from') (c.answer_request.ensures.owns l k' runs x.stands from')
+    (c.answer_request.ensures.made l k' runs x.has_request from') (c.answer_request.ensures.owns l k' runs x.has_request from')
 
 pub returns-clause-notes : goal.returns-clause-notes
 returns-clause-notes g c = λ l k runs h from can.
     let w = service c.args.answer c.args.at c.args.bytes.now in
     let x = written-then c.args.store.now c.write_buffer.new.store l c.args.request w k.lists h can c.write_buffer.ensures.words in
     c.answer_request.ensures.notes l
-    (keeper-written c.args.store.now c.write_buffer.new.store (g.Q.KindKeeper.tells c.args.kinds.now) (g.Q.KindKeeper.room c.args.kinds.now) l c.args.request w k x) runs x.stands
+    (keeper-written c.args.store.now c.write_buffer.new.store (g.Q.KindKeeper.tells c.args.kinds.now) (g.Q.KindKeeper.room c.args.kinds.now) l c.args.request w k x) runs x.has_request
     (ap word_of (to_z-of_z c.ranges.from) ∙ from)

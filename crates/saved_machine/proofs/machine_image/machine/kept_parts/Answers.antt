@@ -10,7 +10,7 @@ use Rattle.saved_machine.proofs.machine_image.machine.kept_parts.Goals as goal
 pub returns-then-not-branch : goal.returns-then-not-branch
 returns-then-not-branch c = λ h.
     let x = c.args.image.now in
-    false≢true (sym c.if-not-branch.true ∙ c.in_ok-store_stands.ensures.1 (store-adopted x (machine-adopted x c.requires.full h)))
+    false≢true (sym c.if-not-branch.true ∙ c.in_ok-is_valid_store.ensures.1 (store-adopted x (machine-adopted x c.requires.full h)))
 
 pub returns-then-not-residents_keep : goal.returns-then-not-residents_keep
 returns-then-not-residents_keep c = λ h.
@@ -26,7 +26,7 @@ returns c =
     (λ ps. (ps ≡ placed_pipes c.as_slice.result.now) × ArePipes ps) c.in-Some-2.pipes c.in-Some-2.is c.in_ok-pipes.ensures) in
     record {
       adopted =
-          adopted-parts x c.requires.lawful (c.in_ok-store_stands.ensures.0 c.if-not-branch.false) (c.residents_keep.ensures.0 c.if-not-residents_keep.false)
+          adopted-parts x c.requires.lawful (c.in_ok-is_valid_store.ensures.0 c.if-not-branch.false) (c.residents_keep.ensures.0 c.if-not-residents_keep.false)
           (subst IsDisc d.0 d.1) (subst ArePipes p.0 p.1);
       disc = d.0;
       pipes = p.0;

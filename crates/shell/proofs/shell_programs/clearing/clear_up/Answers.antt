@@ -1,9 +1,9 @@
 use Rattle.std.proofs.Common.{◌∙◌, ◌+◌, ℕ, List, sym, refl, arith}
 use Rattle.kernel_model.specs.KernelRecord.Lists.{Lists}
-use Rattle.kernel_model.specs.KernelRecord.Standing.{standing}
+use Rattle.kernel_model.specs.KernelRecord.StoreWithLists.{store_with_lists}
 use Rattle.shell.specs.ShellPrograms.ClearedTasks.{cleared, cleared_at}
 use Rattle.shell.proofs.ShellPrograms.ClearedNumbers.{alive-cleared, first-numbers, last-number, next-number}
-use Rattle.shell.proofs.ShellPrograms.MadeStandings.{same-standing}
+use Rattle.shell.proofs.ShellPrograms.StoresAfterCalls.{same-represents}
 use Rattle.shell.proofs.ShellPrograms.ProgramNumbers.{highest-low_enough}
 use Rattle.shell.proofs.shell_programs.clearing.clear_up.Goals as goal
 
@@ -29,9 +29,9 @@ loop-id-preserved g c = record {
       let before = c.loop-id.invariant.so_far h k runs in
       let l : Lists = before.0 in
       let x = c.clear_task.ensures.cleared l before.1 before.2 in (
-        (cleared_at id (standing s l)).lists,
+        (cleared_at id (store_with_lists s l)).lists,
         x.keeper,
-        alive-cleared id (standing s l) c.loop-id.auto.id before.2,
+        alive-cleared id (store_with_lists s l) c.loop-id.auto.id before.2,
         next-number s t l (g.Q.KindKeeper.tells c.clear_task.new.kinds) (g.Q.KindKeeper.room c.clear_task.new.kinds) id (c.highest_id-id-end.result + 1) c.loop-id-test.true x ∙ before.3,
       );
 }
@@ -40,5 +40,5 @@ pub returns-clause-cleared : goal.returns-clause-cleared
 returns-clause-cleared g c = λ l k runs.
     let s : List ℕ = c.loop-id.store in
     let before = c.loop-id.invariant.so_far l k runs in
-    same-standing s (g.Q.KindKeeper.tells c.loop-id.kinds) (g.Q.KindKeeper.room c.loop-id.kinds) before.0 (cleared (standing c.args.store.now l)) before.1
-    (sym before.3 ∙ last-number (standing s before.0) c.loop-id.id (c.highest_id-id-end.result + 1) c.loop-id-test.false)
+    same-represents s (g.Q.KindKeeper.tells c.loop-id.kinds) (g.Q.KindKeeper.room c.loop-id.kinds) before.0 (cleared (store_with_lists c.args.store.now l)) before.1
+    (sym before.3 ∙ last-number (store_with_lists s before.0) c.loop-id.id (c.highest_id-id-end.result + 1) c.loop-id-test.false)

@@ -1,8 +1,8 @@
 use Rattle.std.proofs.Common.{ℕ, sym, subst}
 use Rattle.kernel_model.specs.KernelRecord.ChangedStore.{HasKeeper}
-use Rattle.kernel_model.specs.KernelRecord.Standing.{standing}
+use Rattle.kernel_model.specs.KernelRecord.StoreWithLists.{store_with_lists}
 use Rattle.shell.specs.ShellPrograms.ShellPacket.{posted}
-use Rattle.shell.specs.ShellPrograms.Standings.{RepresentsStanding}
+use Rattle.shell.specs.ShellPrograms.StoresWithLists.{RepresentsStoreWithLists}
 use Rattle.shell.proofs.ShellPrograms.PostedPacket.{request-keeper}
 use Rattle.shell.proofs.shell_programs.packet.send_shell_packet.Goals as goal
 
@@ -17,7 +17,7 @@ pub returns-clause-sent : goal.returns-clause-sent
 returns-clause-sent g c = λ l k r.
     let tells = g.Q.KindKeeper.tells c.args.kinds.now in
     let room : ℕ = g.Q.KindKeeper.room c.args.kinds.now in
-    subst (λ w. RepresentsStanding c.post_shell_packet.new.store (g.Q.KindKeeper.tells c.post_shell_packet.new.kinds) (g.Q.KindKeeper.room c.post_shell_packet.new.kinds) (posted c.args.to (standing w l))) c.write_request.ensures
+    subst (λ w. RepresentsStoreWithLists c.post_shell_packet.new.store (g.Q.KindKeeper.tells c.post_shell_packet.new.kinds) (g.Q.KindKeeper.room c.post_shell_packet.new.kinds) (posted c.args.to (store_with_lists w l))) c.write_request.ensures
     (c.post_shell_packet.ensures.sent l (subst (λ w. HasKeeper w tells room l) (sym c.write_request.ensures) (request-keeper c.args.store.now l c.args.to c.args.kind tells room k r)) r)
 
 pub returns-clause-notes : goal.returns-clause-notes

@@ -1,6 +1,6 @@
 use Rattle.std.proofs.Common.{ℕ, Ok, Err, ap, ◌∙◌, arith}
 use Rattle.std.proofs.lemmas.Result.{err_from_is_err_and}
-use Rattle.kernel_boot.proofs.StandingKernels.{keeper-made}
+use Rattle.kernel_boot.proofs.StoresAfterCalls.{keeper-made}
 use Rattle.shell.specs.ShellPrograms.StartedProgram.{load_program}
 use Rattle.shell.proofs.ShellPrograms.StartedParts.{loaded-then, not-started}
 use Rattle.shell.proofs.shell_programs.programs.start_program.Goals as goal

@@ -6,4 +6,4 @@ use Rattle.tripos_machine.proofs.machine.Machine.store.Goals as goal
 
 pub returns-in-Full : goal.returns-in-Full
 returns-in-Full c =
-    image-list _ _ c.parts-in-Full.ensures.stands.image ∙ sym (ap (λ k. words_of (view_of k).state) c.in-Full.is) ∙ ap (λ (v : MachineView). words_of v.state) c.self.view_is
+    image-list _ _ c.parts-in-Full.ensures.represents.image ∙ sym (ap (λ k. words_of (view_of k).state) c.in-Full.is) ∙ ap (λ (v : MachineView). words_of v.state) c.self.view_is

@@ -14,7 +14,7 @@ execute_one-requires-clause-whole c =
 pub execute_one-requires-clause-steps : goal.execute_one-requires-clause-steps
 execute_one-requires-clause-steps c =
     let steps = ap (λ (v : MachineView). v.kernel.steps) c.self.view_is in
-    omega (arith, c.requires.steps, steps, c.self.invariant.stands.steps)
+    omega (arith, c.requires.steps, steps, c.self.invariant.represents.steps)
 
 pub invariant_of-self : goal.invariant_of-self
 invariant_of-self c =

@@ -11,6 +11,6 @@ returns-then-running-lt-FIRST_GUEST c = sym (task-met c.args.breakpoints.now c.a
 pub returns : goal.returns
 returns c =
     let k = kernel_of c.self.inside.parts c.self.inside.stop in
-    c.has_breakpoint.ensures ∙ ap (λ r. has_breakpoint r.pc c.args.breakpoints.now) c.self.invariant.stands.regs
+    c.has_breakpoint.ensures ∙ ap (λ r. has_breakpoint r.pc c.args.breakpoints.now) c.self.invariant.represents.regs
     ∙ guest-met c.args.breakpoints.now k (omega (arith, c.running.ensures, c.if-running-lt-FIRST_GUEST.false, ap (λ (v : MachineView). v.kernel.lists.running) c.self.view_is))
     ∙ ap (λ (v : MachineView). is_met c.args.breakpoints.now v.kernel) c.self.view_is

@@ -8,5 +8,5 @@ use Rattle.kernel_machine.proofs.running_machine.machine.Machine.note_boot.Goals
 pub returns : goal.returns
 returns g c =
     let k = kernel_of c.self.inside.parts c.self.inside.stop in
-    let held = c.self.invariant.stands.keeper.lists in
+    let held = c.self.invariant.represents.keeper.lists in
     subst (NotesAll _ _ _ _) (ap (λ (v : MachineView). boot_events v.kernel) c.self.view_is) (notes-then _ _ _ _ _ _ _ _ (c.note_residents.ensures k.lists held) (c.note_running.ensures k.lists held))

@@ -13,7 +13,7 @@ pass-requires-clause-whole c =
 pub pass-requires-clause-steps : goal.pass-requires-clause-steps
 pass-requires-clause-steps c =
     let steps = ap (λ (v : MachineView). v.kernel.steps) c.self.view_is in
-    omega (arith, c.requires.steps, steps, c.self.invariant.stands.steps)
+    omega (arith, c.requires.steps, steps, c.self.invariant.represents.steps)
 
 pub invariant_of-self : goal.invariant_of-self
 invariant_of-self c =
