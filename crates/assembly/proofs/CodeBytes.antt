@@ -1,4 +1,4 @@
--- The bytes that stand in code, and the words that they are.
+-- The bytes that are in code, and the words that they are.
 use Rattle.std.proofs.Common.{◌≡◌, ◌∙◌, ℕ, zero, suc, ◌+◌, ◌*◌, ◌/◌, ◌%◌, ◌^◌, ◌<◌, Option, Some, None, List, [], ◌∷◌, ◌++◌, length, refl, ap, arith}
 use Rattle.std.specs.Prelude.{slice_get, unwrap_or}
 use Rattle.std.specs.List.{AllByRecursion}
@@ -15,7 +15,7 @@ abbrev pub bytes_from : (ℕ → Option ℕ) → ℕ → ℕ → List ℕ
 bytes_from code zero a = []
 bytes_from code (suc n) a = unwrap_or (code a) 0 ∷ bytes_from code n (a + 1)
 
--- bytes that stand there are these
+-- bytes that are there are these
 pub bytes_from_place : (code : ℕ → Option ℕ) (a : ℕ) (bytes : List ℕ) → a + length bytes < 2 ^ 32 → HasBytesAt code a bytes → bytes ≡ bytes_from code (length bytes) a
 bytes_from_place code a [] lt h = refl
 bytes_from_place code a (b ∷ bs) lt h =
@@ -33,7 +33,7 @@ bytes_more code (suc m) n a =
 
 -- ---- code of words
 
--- behind a word stand the bytes of the words after it
+-- behind a word are the bytes of the words after it
 behind_word : (w : ℕ) (ws : List ℕ) (a : ℕ) → byte_at (w ∷ ws) (a + 4) ≡ byte_at ws a
 behind_word w ws a =
     let place : (a + 4) / 4 ≡ suc (a / 4) = omega arith in

@@ -48,7 +48,7 @@ pub record IsNamed (parts : List (List ℕ)) (s : Statement) : Type 0 where
   pub no_label : before_colon name ≡ None
   pub read : statement_of parts ≡ Ok s
 
--- Parts that are read as a statement, which stands where it is put and gives so many bytes of the code, where the table has
+-- Parts that are read as a statement, which is where it is put and gives so many bytes of the code, where the table has
 -- what it leads to.
 pub record IsSaid (code : ℕ → Option ℕ) (leads : ℕ → Type 0) (a size : ℕ) (parts : List (List ℕ)) : Type 0 where
   pub statement : Statement

@@ -31,7 +31,7 @@ pub fn listing_law()
 {}
 
 /// The lines that are assembled are those of the listing. Where a line of the hunk's listing begins with the code, they
-/// stand there; and one that leads to no target has its text there after the address.
+/// are there; and one that leads to no target has its text there after the address.
 pub fn listed_law()
     ensures lines { (has_label : ℕ → Bool) (lines front rest : List ListedLine) (h : Hunk) →
         IsPlainCode has_label lines h →

@@ -66,7 +66,7 @@ module _ (s : List ℕ) (r : Regs) (t : List ℕ) (q : Regs) (k n : ℕ) (e : Ex
 
 -- ---- bytes behind others
 
--- what a step wrote stands behind what was there
+-- what a step wrote is behind what was there
 pub same-behind : (old : List ℕ) (x y : BareStepped) → x ≡ y → old ++ x.bytes ≡ old ++ y.bytes
 same-behind old x y same = ap (λ (z : BareStepped). old ++ z.bytes) same
 

@@ -10,7 +10,7 @@ use word_store::{Regs, Store};
 
 const PROGRAM: u32 = 800;
 
-/// The machine of a bare session before its first step: its code stands in the store from byte 800 on, and all other words are 0.
+/// The machine of a bare session before its first step: its code is in the store from byte 800 on, and all other words are 0.
 /// The first line whose bytes pass the store's end is refused with code 1. `WantMemory` comes only where memory could not be had.
 #[tactic(auto, unfolding(crate::specs::Boot::boot))]
 pub fn boot(alloc: Global, session: &Session) -> Result<Bare, BootEnd>

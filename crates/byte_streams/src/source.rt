@@ -6,7 +6,7 @@ ghost use Rattle.byte_streams.specs.Read.{Reads, HasReadCause};
 /// What a read answers.
 #[derive(Clone, Copy, Debug, PartialEq, Eq)]
 pub enum ReadStep {
-    /// That many bytes, at least one, now stand at the front of the piece.
+    /// That many bytes, at least one, now are at the front of the piece.
     Got(usize),
     /// No byte is left.
     End,

@@ -21,7 +21,7 @@ pub fn read_arguments(template: &[u8], line: &[u8]) -> Result<[Arg; 8], u32>
     Ok(args)
 }
 
-/// What stands in the line as the value of an entry; no bytes where it is given none.
+/// What is in the line as the value of an entry; no bytes where it is given none.
 pub fn text(line: &[u8], arg: Arg) -> &[u8]
     requires { IsInside (length line.now) arg }
     ensures { result.now ≡ text_of line.now arg }

@@ -16,7 +16,7 @@ pub on-bare : (s : State) (P : State → Type 0) → IsBare s → ((m : BareStat
 on-bare (Bare m) P x each = each m
 on-bare (Full k) P x each = absurd x
 
--- some lists stand in the store of the parts
+-- some lists are in the store of the parts
 pub held-lists : (p : Parts) (s : State) → RepresentsFullState p s → (l : Lists) × HoldsLists p.store l
 held-lists p (Bare m) x = absurd x
 held-lists p (Full k) x = (k.lists, x.keeper.lists)

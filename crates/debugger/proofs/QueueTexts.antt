@@ -1,4 +1,4 @@
--- The text of a queue that stands in a store.
+-- The text of a queue that is in a store.
 use Rattle.std.proofs.Common.{◌≡◌, ℕ, Option, Some, None, List, refl, ap}
 use Rattle.kernel_model.specs.KernelRecord.Recovered.{packets_at}
 use Rattle.kernel_calls.specs.PacketCalls.QueueWords.{head_of}

@@ -19,7 +19,7 @@ use Rattle.debugger.specs.Runs.{IsWithin}
 use Rattle.debugger.proofs.DebuggedRuns.{debugged-all, debugged-then, left-goes, within-then}
 use Rattle.debugger.proofs.StepsTo.{run-one, to-most}
 
--- of a list, or what stands in its place
+-- of a list, or what is in its place
 get-holds : {X : Type 0} (P : X → Type 0) (xs : List X) (k : ℕ) (d : X) → AllByRecursion P xs → P d → P (get_or xs k d)
 get-holds P [] k d all one = one
 get-holds P (x ∷ xs) zero d all one = all.0

@@ -101,7 +101,7 @@ fn obey_line<K: Sink>(
     }
 }
 
-// Undoes steps, and gathers that there were fewer, and where the machine stands then.
+// Undoes steps, and gathers that there were fewer, and where the machine is then.
 fn go_back<K: Sink>(
     n: u32,
     limits: Limits,
@@ -156,7 +156,7 @@ fn go_on<K: Sink>(
     }
 }
 
-// Takes at most so many steps, and gathers their console bytes, and where the machine stands then.
+// Takes at most so many steps, and gathers their console bytes, and where the machine is then.
 fn step_noted<K: Sink>(
     machine: &mut Machine,
     history: &mut History,
@@ -182,7 +182,7 @@ fn step_noted<K: Sink>(
     gather_place(machine, limits.first, out, pending)
 }
 
-// Takes steps up to a breakpoint or a stop, and gathers their console bytes, and where the machine stands then.
+// Takes steps up to a breakpoint or a stop, and gathers their console bytes, and where the machine is then.
 fn go_on_noted<K: Sink>(
     machine: &mut Machine,
     history: &mut History,

@@ -1,4 +1,4 @@
-// Where a machine stands.
+// Where a machine is.
 ghost use Rattle.std.specs.Prelude.{◌≡◌, ◌≤◌, ◌++◌, [], codes, if◌then◌else◌};
 ghost use Rattle.byte_streams.specs.Pending.{Gathers};
 ghost use Rattle.byte_streams.specs.Sinks.{FailsBySink, GathersFor};
@@ -9,7 +9,7 @@ use byte_streams::Piece::{Decimal, Text};
 use byte_streams::{Output, Sink, SinkFault, gather, gather_pieces};
 use tripos_machine::Machine;
 
-/// Gathers where the machine stands: the steps since it had taken the first ones, PC, and the task that runs; or that it has stopped.
+/// Gathers where the machine is: the steps since it had taken the first ones, PC, and the task that runs; or that it has stopped.
 pub(crate) fn gather_place<K: Sink>(
     machine: &Machine,
     first: u64,
@@ -28,7 +28,7 @@ pub(crate) fn gather_place<K: Sink>(
     gather_at(steps, machine.regs().pc, machine.running(), out, pending)
 }
 
-/// Gathers that fewer steps could be undone than were to be, where that is so, and where the machine stands.
+/// Gathers that fewer steps could be undone than were to be, where that is so, and where the machine is.
 pub(crate) fn gather_return<K: Sink>(
     fewer: bool,
     machine: &Machine,

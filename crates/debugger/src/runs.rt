@@ -15,7 +15,7 @@ use byte_streams::{Output, Sink, SinkFault, gather};
 use kernel_lists::{FIRST_GUEST, NoLog};
 use tripos_machine::Machine;
 
-/// Takes at most so many steps, and gathers their console bytes, and where the machine stands then.
+/// Takes at most so many steps, and gathers their console bytes, and where the machine is then.
 pub(crate) fn step<K: Sink>(
     machine: &mut Machine,
     n: u64,
@@ -36,7 +36,7 @@ pub(crate) fn step<K: Sink>(
     gather_place(machine, limits.first, out, pending)
 }
 
-/// Takes steps up to a breakpoint or a stop, and gathers their console bytes, and where the machine stands then.
+/// Takes steps up to a breakpoint or a stop, and gathers their console bytes, and where the machine is then.
 pub(crate) fn go_on<K: Sink>(
     machine: &mut Machine,
     stops: &Breakpoints,

@@ -122,7 +122,7 @@ pub(crate) fn obey<K: Sink>(
     }
 }
 
-// Gathers that no step can be undone, where one was to be, and where the machine stands.
+// Gathers that no step can be undone, where one was to be, and where the machine is.
 fn go_back<K: Sink>(
     n: u32,
     machine: &Machine,

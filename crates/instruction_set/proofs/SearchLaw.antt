@@ -1,4 +1,4 @@
--- A key is found in a table whose keys stand in the order of the search.
+-- A key is found in a table whose keys are in the order of the search.
 use Rattle.std.proofs.Common.{◌≡◌, ◌≢◌, ◌∙◌, sym, ap, ℕ, zero, suc, ◌+◌, ◌*◌, ◌/◌, ◌%◌, ◌^◌, ◌<◌, ◌≤◌, ◌⊎◌, inl, inr, List, Result, refl, arith}
 use Rattle.std.proofs.Math.Nat.{div-div-eq-div-mul, div-le_self, pow-suc}
 use Rattle.std.proofs.lemmas.Bool.{cases_lt}
@@ -16,7 +16,7 @@ use Rattle.instruction_set.proofs.KeySearch.{past_last, turn}
 halved_once : (j times : ℕ) → j / 2 ^ suc times ≡ j / 2 ^ times / 2
 halved_once j times = rw (pow-suc 2 times) (sym (div-div-eq-div-mul j (2 ^ times) 2))
 
--- what stands below a pair and is not it stands to its left or to its right
+-- what is below a pair and is not it is to its left or to its right
 below : (i j : ℕ) → IsUnder i j → (j ≡ i) ⊎ (IsUnder (2 * i) j ⊎ IsUnder (2 * i + 1) j)
 below i j u = by_times u.0 u.1
   where
@@ -33,7 +33,7 @@ below i j u = by_times u.0 u.1
 no_higher : (i j : ℕ) → IsUnder i j → i ≤ j
 no_higher i j u = let le = div-le_self j (2 ^ u.0) in let e = u.1 in omega arith
 
--- every pair stands below pair 1
+-- every pair is below pair 1
 under_first : (bound j : ℕ) → 1 ≤ j → j ≤ bound → IsUnder 1 j
 under_first zero j one le = absurd (omega arith)
 under_first (suc bound) j one le =

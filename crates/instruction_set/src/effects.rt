@@ -26,7 +26,7 @@ pub fn effect<X: Guard>(store: &mut Store, regs: &mut Regs, guard: &X, i: Instr)
     ensures { let marks = X.marks guard.now store.old in
         after result store.new regs.new ≡ effected marks store.old regs.old i }
 {
-    // Makes a change of the registers r, which have PC at the next instruction. It stands in each arm, and not once
+    // Makes a change of the registers r, which have PC at the next instruction. It is in each arm, and not once
     // after them, since a change that passes a join of arms is kept in memory. Registers that are copied once before the
     // arms cost a quarter more machine instructions a step.
     macro_rules! make {

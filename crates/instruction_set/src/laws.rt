@@ -5,7 +5,7 @@ ghost use Rattle.word_store.specs.declared.registers.Regs.{Regs};
 ghost use Rattle.instruction_set.specs.SearchOrder.{HasKeys, IsSearchOrder};
 ghost use Rattle.instruction_set.specs.Switch.{jump_by, switch_by_key};
 
-/// In a table whose keys stand in the order of the search, a key that is A is found, and its label is used. In any table,
+/// In a table whose keys are in the order of the search, a key that is A is found, and its label is used. In any table,
 /// the default is used where no key is A.
 pub fn search_law()
     ensures found { (words : List ℕ) (r : Regs) (t count : ℕ) (keys : ℕ → ℕ) →

@@ -15,7 +15,7 @@ use Rattle.kernel_boot.specs.BootWords.{root_pairs}
 use Rattle.kernel_boot.specs.EmptyKernel.{empty_lists}
 use Rattle.kernel_model.proofs.KernelRecord.RootCounts.{highest-high}
 
--- what was written stands, where it was not written over
+-- what was written is there, where it was not written over
 written-here : (front : Pairs) (b w : ℕ) (back : Pairs) (s : List ℕ) → owners b front ≡ 0 → b < length s → get_or (written (front ++ (b, w) ∷ back) s) b 0 ≡ w
 written-here [] b w back s none inside = get_or-set_same (written back s) b w 0 (omega (arith, inside, length-written back s))
 written-here (e ∷ es) b w back s none inside =

@@ -46,7 +46,7 @@ module _ (n : ℕ) (large : 1024 ≤ n) where
             get_or-set_other (written es zeros) e.0 a e.1 0 differ ∙ found es a (and_parts (nat_le e.0 999) (are_low es) low).1 near)
       ] refl
 
-  -- so words stand where their addresses lead to them
+  -- so words are where their addresses lead to them
   pub all-found : (es ws : Pairs) → are_low es ≡ true → are_low ws ≡ true → map (λ w. word_among es w.0) ws ≡ map (λ w. w.1) ws → Holds (written es zeros) ws
   all-found es [] low near same = tt
   all-found es (w ∷ ws) low near same =

@@ -150,7 +150,7 @@ pub enum CallOutcome {
     Quit(u32),
     /// There is no call of the number; nothing was changed.
     Unknown,
-    /// The number or an argument would stand outside the store, at this address; nothing was changed.
+    /// The number or an argument would be outside the store, at this address; nothing was changed.
     Outside(u32),
 }
 

@@ -1,4 +1,4 @@
--- Queues whose words were claimed stand, and each packet lies in one used block.
+-- Queues whose words were claimed are there, and each packet lies in one used block.
 use Rattle.std.proofs.Common.{◌≡◌, ℕ, zero, suc, ◌+◌, ◌-◌, ◌<◌, ◌≤◌, true, List, [], ◌∷◌, cond, length, refl, sym, ap, subst, arith}
 use Rattle.std.specs.List.{AllByRecursion, flat_map, range_with_len}
 use Rattle.word_store.specs.Count.{times, words_of}

@@ -1,4 +1,4 @@
--- Whether a packet may stand where it is queued, rule by rule.
+-- Whether a packet may be where it is queued, rule by rule.
 use Rattle.std.proofs.Common.{◌≡◌, ◌↔◌, ℕ, Bool, true, false, eqb, sym, ◌∙◌, subst}
 use Rattle.std.proofs.lemmas.Bool.{and_parts, eqb-true, false≢true}
 use Rattle.kernel_lists.specs.PacketQueue.QueueWords.{QueuedPacket}

@@ -16,7 +16,7 @@ use Rattle.kernel_model.proofs.KernelRecord.EachMember.{all-both, all-each}
 
 -- ---- the first ready task
 
--- its number stands in its block
+-- its number is in its block
 number-found : (s : List ℕ) (ts : List ℕ) → option_map_or (id_in s) (option_map task_address (find is_ready (map (task_in s) ts))) 0 ≡ option_map_or (λ t. t.id) (find is_ready (map (task_in s) ts)) 0
 number-found s [] = refl
 number-found s (t ∷ ts) = on (is_ready (task_in s t)) (number-found s ts)

@@ -40,11 +40,11 @@ is-shut s m is = record {
 
 -- ---- coroutines
 
--- the coroutines of tasks that own them stand
+-- the coroutines of tasks that own them are valid
 pub owned-valid : (s : List ℕ) → AllByRecursion (OwnsCoroutines s) (tasks_in s) → AllByRecursion (AreValidCoroutines (lists_in s)) (lists_in s).tasks
 owned-valid s all = (of-tasks s (AreValidCoroutines (lists_in s))).0 (all-each (OwnsCoroutines s) (λ t. AreValidCoroutines (lists_in s) (task_in s t)) (λ t h. h.valid) (tasks_in s) all)
 
--- and where the words of tasks stand, each tells whether it is active
+-- and where the words of tasks are right, each tells whether it is active
 pub all-owned : (s : List ℕ) → IsClaimed s → Passes s → AllByRecursion (OwnsCoroutines s) (tasks_in s)
 all-owned s c p = each (tasks_in s) (some-tasks s c) ((of-tasks s (AreValidCoroutines (lists_in s))).1 p.coroutines) ((of-tasks s (HoldsTaskWords s (lists_in s))).1 p.heads)
   where

@@ -16,7 +16,7 @@ use store_claims::{Claims, are_tiled, claim_lists, open_blocks};
 use word_store::Store;
 
 /// Whether the lists that are read off the store are valid, and the store holds their words: exactly where some valid lists' words
-/// stand in it. It takes some looks at each word that a list may have, and has memory for a mark for each word, four times.
+/// are in it. It takes some looks at each word that a list may have, and has memory for a mark for each word, four times.
 /// `WantMemory` comes only where that could not be had.
 pub fn holds_lists(alloc: Global, store: &Store) -> Result<bool, WantMemory>
     ensures { IfOk result (λ b. IsTrue b ↔ HoldsLists store.now (lists_in store.now)) }

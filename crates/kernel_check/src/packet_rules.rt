@@ -1,4 +1,4 @@
-// Whether a packet may stand where it is queued.
+// Whether a packet may be where it is queued.
 ghost use Rattle.std.specs.Prelude.{◌≡◌, ◌↔◌, IsTrue, true};
 ghost use Rattle.kernel_model.specs.KernelRecord.Lists.{has_task};
 ghost use Rattle.kernel_model.specs.KernelRecord.Recovered.{lists_in, packet_in};
@@ -16,7 +16,7 @@ use kernel_model::numbers::{
 };
 use word_store::{Store, word, word_at};
 
-/// Whether the packet at p may stand at the place. It looks at its words and at one entry of the task table.
+/// Whether the packet at p may be at the place. It looks at its words and at one entry of the task table.
 pub(crate) fn is_valid_packet(store: &Store, at: QueuePlace, p: u32) -> bool
     requires known { AreTasksKnown store.now }
     requires lodged { AreData (lists_in store.now).blocks p 5 }
@@ -38,7 +38,7 @@ fn is_key_packet(store: &Store, p: u32) -> bool
     has_residents(store) && p == KEY_PACKET
 }
 
-// Whether the key packet may stand there.
+// Whether the key packet may be there.
 fn is_valid_key_packet(store: &Store, at: QueuePlace, p: u32) -> bool
     ensures { IsTrue result ↔ IsKeyPacket (place_of at) (packet_in store.now p) }
 {
@@ -64,7 +64,7 @@ fn is_key_place(at: QueuePlace, sender: u32) -> bool
     }
 }
 
-// Whether it is not the fault packet, or may stand there.
+// Whether it is not the fault packet, or may be there.
 fn fault_rule_holds(store: &Store, at: QueuePlace, p: u32) -> bool
     requires { AreTasksKnown store.now }
     ensures { IsTrue result ↔ (is_fault_packet (lists_in store.now) (packet_in store.now p) ≡ true
@@ -84,7 +84,7 @@ fn is_fault_packet(store: &Store, p: u32) -> bool
     is_task(store, REPORTER) && p == FAULT_PACKET
 }
 
-// Whether the fault packet may stand there.
+// Whether the fault packet may be there.
 fn is_valid_fault_packet(store: &Store, at: QueuePlace, p: u32) -> bool
     ensures { IsTrue result ↔ IsFaultPacket (place_of at) (packet_in store.now p) }
 {
@@ -113,7 +113,7 @@ fn is_fault_place(at: QueuePlace) -> bool
     }
 }
 
-// Whether a packet that stands there may be from the sender.
+// Whether a packet that is there may be from the sender.
 fn has_sender(store: &Store, at: QueuePlace, sender: u32) -> bool
     requires { AreTasksKnown store.now }
     ensures { IsTrue result ↔ HasSender (lists_in store.now) (place_of at) sender }

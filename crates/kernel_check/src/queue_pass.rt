@@ -22,7 +22,7 @@ use kernel_lists::{NO_QUEUE, RootField, TcbField, field, packets, tasks};
 use kernel_model::numbers::{FAULT_PACKET, KEY_PACKET, PENDING_HEAD, REPORTER, RES2};
 use word_store::{Store, word, word_at};
 
-/// Whether each queued packet may stand where it does, due ticks never fall along the clock's queue, and the packets of residents
+/// Whether each queued packet may be where it is, due ticks never fall along the clock's queue, and the packets of residents
 /// are free exactly where they are on no queue. It looks three times at each packet.
 pub fn are_valid_queues(store: &Store) -> bool
     requires known { AreTasksKnown store.now }

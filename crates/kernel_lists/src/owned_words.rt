@@ -1,3 +1,3 @@
-// Owned words: which words of a store belong to what stands there, and their exchange.
+// Owned words: which words of a store belong to what is there, and their exchange.
 
 pub mod laws;

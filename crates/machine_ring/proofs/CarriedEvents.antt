@@ -41,7 +41,7 @@ module _ {P : Type 0} (Q : P → Type 0) (ps : List P) (all : All Q ps) where
   all-with : (p : P) → Q p → All Q (with_packet p ps)
   all-with p q = all-if (nat_lt (length ps) 64) _ _ (All-append Q ps (p ∷ []) all (All-cons Q p [] q (All-nil Q))) all
 
--- it stands among what was sent
+-- it is among what was sent
 abbrev WasSent : {P : Type 0} → List P → P → Type 0
 WasSent sent p = (place : ℕ) × (slice_get sent place ≡ Some p)
 

@@ -160,7 +160,7 @@ offset_ends_not : (n m : ℕ) (b : Bool) (q : Rest) → (finish (cond b (NextTyp
 offset_ends_not n m true q h = cc h
 offset_ends_not n m false q h = cc h
 
--- where the end word may stand, a type is expected
+-- where the end word may be, a type is expected
 type_of_end : (e : Expects) (q : Rest) → run e (end_word ∷ []) ≡ Ok q → ExpectsType e
 type_of_end FirstType q h = tt
 type_of_end (NextType n) q h = tt
@@ -370,7 +370,7 @@ parts e words (w ∷ ws) next a p h =
 part_of : (words : List ℕ) (next : Expects) → after FirstType words ≡ Ok next → Part next words
 part_of words next a = parts FirstType [] words next refl tt a
 
--- the type of a hunk may stand wherever a type is expected
+-- the type of a hunk may be wherever a type is expected
 hunk_after : (e : Expects) (ws : List ℕ) → ExpectsType e → after e (hunk_type ∷ ws) ≡ after Length ws
 hunk_after FirstType ws h = refl
 hunk_after (NextType n) ws h = refl

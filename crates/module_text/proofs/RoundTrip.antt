@@ -13,7 +13,7 @@ use Rattle.module_text.proofs.Spans.{token_of}
 use Rattle.module_text.proofs.Hex.{hex_word, no_blanks}
 use Rattle.module_text.proofs.Complete.{complete}
 
--- the tokens of the text are the words, at whatever place it stands
+-- the tokens of the text are the words, at whatever place it is
 abbrev pub Reads : List ℕ → List ℕ → Type 0
 Reads text words = (n : ℕ) → AreWords (tokens_from n text) words
 
@@ -39,7 +39,7 @@ reads_word c w text ws lt e next = reads_digits (hex_digits_of w) c w text ws (n
 
 -- ---- the words of an item
 
--- what stands after a word is a blank
+-- what is after a word is a blank
 after_by : (b : Bool) → (c : ℕ) × (cond b (10 ∷ []) (32 ∷ []) ≡ c ∷ []) × (is_blank c ≡ true)
 after_by true = (10, refl, refl)
 after_by false = (32, refl, refl)

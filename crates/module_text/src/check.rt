@@ -17,7 +17,7 @@ pub struct Shape {
 }
 
 /// The shape of the module of a text. `Err` comes exactly where the text is none, with the code of the first token that
-/// cannot follow those before it: 1 it is no word, 2 the text ends inside an item, 3 no item of this type may stand here,
+/// cannot follow those before it: 1 it is no word, 2 the text ends inside an item, 3 no item of this type may be here,
 /// 4 an offset is not below its hunk's length, 5 the text ends where an item could begin, 6 a token follows the end word.
 pub fn check_module<X: TextBytes>(text: &X) -> Result<Shape, u32>
     ensures { result ≡ check_of (X.text text.now) }

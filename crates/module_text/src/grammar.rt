@@ -31,7 +31,7 @@ pub enum Expects {
     Nothing,
 }
 
-/// What is expected after this word, or the code of a word that cannot stand here: 3, 4 or 6.
+/// What is expected after this word, or the code of a word that cannot be here: 3, 4 or 6.
 pub fn follow(expects: Expects, word: u32) -> Result<Expects, u32>
     ensures { result ≡ follow expects word }
 {

@@ -7,7 +7,7 @@ pub struct Hunk {
     /// Its words.
     pub words: WordList,
     /// The offsets, in words, of those words to which the hunk's own word address is added when it is loaded: once for
-    /// each time that the offset stands here.
+    /// each time that the offset is here.
     pub relocations: WordList,
 }
 

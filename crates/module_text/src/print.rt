@@ -154,7 +154,7 @@ fn gather_word<K: Sink>(
     gather_pieces(out, pending, &[Piece::Word(word), Piece::Text(after)])
 }
 
-// What stands after word i of n.
+// What is after word i of n.
 fn after_word(i: usize, n: usize) -> &'static [u8]
     requires { i < n }
     ensures { result.now ≡ after_word i n }

@@ -18,7 +18,7 @@ use std::alloc::Global;
 
 /// The module of a text. `Bad` comes exactly where the text is none, with the line of the first token that cannot follow
 /// those before it, or of the text's end, and its code: 1 it is no word, 2 the text ends inside an item, 3 no item of this
-/// type may stand here, 4 an offset is not below its hunk's length, 5 the text ends where an item could begin, 6 a token
+/// type may be here, 4 an offset is not below its hunk's length, 5 the text ends where an item could begin, 6 a token
 /// follows the end word.
 pub fn read_module(alloc: Global, text: &[u8]) -> Result<Module, TextEnd>
     requires { length text.now < 2 ^ 32 - 1 }

@@ -16,7 +16,7 @@ pub struct Step {
     pub next: Expects,
 }
 
-/// The word that a token is, and what is expected after it; else the code of a token that cannot stand here.
+/// The word that a token is, and what is expected after it; else the code of a token that cannot be here.
 pub fn read_token<X: TextBytes>(text: &X, expects: Expects, token: Span) -> Result<Step, u32>
     requires some { token.start < token.end }
     requires inside { token.end ≤ length (X.text text.now) }

@@ -1,4 +1,4 @@
-// Where the bytes of a text stand.
+// Where the bytes of a text are.
 ghost use Rattle.std.specs.Prelude.{◌≡◌, ◌<◌, ◌^◌, ℕ, List, length, slice_get};
 
 use std::marker::Model;

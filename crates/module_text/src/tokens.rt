@@ -32,7 +32,7 @@ pub fn next_word<X: TextBytes>(text: &X, from: u32) -> Option<NextWord>
     })
 }
 
-/// Where a token stands: the place of its first byte, and the place after its last.
+/// Where a token is: the place of its first byte, and the place after its last.
 #[derive(Clone, Copy)]
 pub struct Span {
     /// The place of its first byte.

@@ -2,7 +2,7 @@
 ghost use Rattle.std.specs.Prelude.{◌≡◌};
 ghost use Rattle.program_answers.specs.Exit.{exit_code};
 
-/// How a call ended. What it wrote stands beside each.
+/// How a call ended. What it wrote is beside each.
 #[derive(Clone, Copy, Debug, PartialEq, Eq)]
 pub enum Status {
     /// The command's bytes.

@@ -115,7 +115,7 @@ module _ (names : List (List ℕ)) (a : Area) (used unused : List ℕ) (ps : Lis
         sector = here;
       })
 
-  -- a stream is open where it stands somewhere
+  -- a stream is open where it is somewhere
   pub open-at : (k : ℕ) → is_some (stream_at D k) ≡ is_some (place_in ps k)
   open-at k = ap is_some (stream_at-place names ps D k refl) ∙ on (place_in ps k)
     where

@@ -18,7 +18,7 @@ times-get_or [] i h = absurd (omega arith)
 times-get_or (x ∷ xs) zero h = omega (arith, hit-same x x refl)
 times-get_or (x ∷ xs) (suc i) h = omega (arith, times-get_or xs i (omega arith))
 
--- what is counted stands at some place
+-- what is counted is at some place
 pub place-times : (a : ℕ) (xs : List ℕ) → 0 < times a xs → (i : ℕ) × (i < length xs) × (get_or xs i 0 ≡ a)
 place-times a [] some = absurd (omega (arith, some))
 place-times a (x ∷ xs) some =

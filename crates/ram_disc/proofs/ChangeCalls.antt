@@ -57,7 +57,7 @@ kept-new names a used unused table is e f =
       streams = λ k p g. absurd (none-some p (sym (get_or-nones most_streams k) ∙ g));
     }
 
--- the streams, where a slot on which none of them stands has another name
+-- the streams, where a slot that none of them is on has another name
 pub streams-name : (names : List (List ℕ)) (ps : List (Option Place)) (s : ℕ) (n : List ℕ) → ((k : ℕ) (q : Place) → get_or ps k None ≡ Some q → q.slot ≢ s)
     → streams_in (set names s n) ps ≡ streams_in names ps
 streams-name names ps s n other =
@@ -121,7 +121,7 @@ module _ (names : List (List ℕ)) (a : Area) (used unused : List ℕ) (ps : Lis
   files : AreKept names a used unused ps → HasFiles names a.bytes used unused D
   files h = record { slots = h.slots; files = refl }
 
-  -- a file that no stream stands on has other bytes
+  -- a file that no stream is on has other bytes
   pub files-set : (b : Area) (i : ℕ) (name : List ℕ) (x : List ℕ) → AreKept names a used unused ps → IsAt names used name i → b.bytes ≡ set a.bytes (S i) x
       → with_file (file name x) (files_in names a.bytes used) ≡ files_in names b.bytes used
   files-set b i name x h at bytes =
@@ -192,7 +192,7 @@ module _ (names : List (List ℕ)) (a : Area) (used unused : List ℕ) (ps : Lis
         sector = λ less. absurd (omega (arith, less, ap length nil));
       })
 
-  -- no stream stands on a file that is not there
+  -- no stream is on a file that is not there
   pub is_used-none : AreKept names a used unused ps → (name : List ℕ) (i : ℕ) → HasPlace names used name i → is_used D name ≡ false
   is_used-none h name i place = any-agree (is_on name) (λ q. false) names ps (λ k l. on k (get_or ps k None) (h.streams k)) ∙ none ps
     where

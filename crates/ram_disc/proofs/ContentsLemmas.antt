@@ -44,7 +44,7 @@ pub get_or-slot : (stored : List ℕ) (chains : List (List ℕ)) (sizes : List �
 get_or-slot stored chains sizes i p h k =
     ap (λ xs. get_or xs p 0) (get_or-all_bytes stored chains sizes i h) ∙ get_or-bytes stored (get_or chains i []) (get_or sizes i 0) p k
 
--- bytes that stand in places with the same bytes are the same
+-- bytes that are in places with the same bytes are the same
 pub bytes-agree : (stored other chain chain' : List ℕ) (n : ℕ)
     → ((p : ℕ) → p < n → get_or other (place_in chain' p) 0 ≡ get_or stored (place_in chain p) 0)
     → bytes_in other chain' n ≡ bytes_in stored chain n
@@ -86,7 +86,7 @@ apart-below c i k apart h within =
 pub slot-once : (c : Chains) (i : ℕ) → AreApart c → i < length c.chains → (a : ℕ) → times a (get_or c.chains i []) ≤ 1
 slot-once c i apart h a = omega (arith, apart.once a, one-count a i c.chains h)
 
--- a byte of a slot stands among the disc's bytes
+-- a byte of a slot is among the disc's bytes
 pub place-inside : (stored : List ℕ) (c : Chains) (sizes : List ℕ) (i p : ℕ) → IsArea stored c sizes → i < length sizes → p < get_or sizes i 0
     → place_in (get_or c.chains i []) p < length stored
 place-inside stored c sizes i p area h within =
@@ -97,7 +97,7 @@ place-inside stored c sizes i p area h within =
 pub size-below : (stored : List ℕ) (c : Chains) (sizes : List ℕ) (i : ℕ) → IsArea stored c sizes → i < length sizes → get_or sizes i 0 ≤ 512 * most_sectors
 size-below stored c sizes i area h = omega (arith, area.lengths i h, area.apart.all, get_or-le-sum_by length c.chains i [] (omega (arith, area.slots, area.apart.slots, h)))
 
--- so many bytes of a slot, none of them in another sector, stand in a row
+-- so many bytes of a slot, none of them in another sector, are in a row
 pub piece-is : (stored : List ℕ) (chains : List (List ℕ)) (sizes : List ℕ) (i p n at : ℕ) → i < length sizes → p + n ≤ get_or sizes i 0 → p % 512 + n ≤ 512
     → at ≡ place_in (get_or chains i []) p → at + n ≤ length stored → between at (at + n) stored ≡ take n (drop p (get_or (all_bytes stored chains sizes) i []))
 piece-is stored chains sizes i p n at h within inside is fits =
@@ -113,7 +113,7 @@ piece-is stored chains sizes i p n at h within inside is fits =
     get_or-between stored at (at + n) k 0 (omega (arith, lt)) ∙ ap (λ q. get_or stored q 0) place
     ∙ sym (get_or-take n (drop p xs) k 0 lt ∙ get_or-drop p xs k 0 ∙ get_or-slot stored chains sizes i (p + k) h (omega (arith, within, lt))))
 
--- and they stand among the disc's bytes
+-- and they are among the disc's bytes
 pub row-inside : (stored : List ℕ) (c : Chains) (sizes : List ℕ) (i p n at : ℕ) → IsArea stored c sizes → i < length sizes → 0 < n → p + n ≤ get_or sizes i 0 → p % 512 + n ≤ 512
     → at ≡ place_in (get_or c.chains i []) p → at + n ≤ length stored
 row-inside stored c sizes i p n at area h some within inside is =
@@ -168,7 +168,7 @@ module _ (stored : List ℕ) (c c' : Chains) (sizes : List ℕ) (slot n sector :
       let lt : n / 512 < length chain = omega (arith, g.reserves.size) in
       omega (arith, g.area.size, g.fits, g.reserves.last, apart-below c' slot (n / 512) g.reserves.apart (slot-new g) lt)
 
-  -- the old bytes stand where they stood
+  -- the old bytes are where they stood
   old-byte : Pushes → (p : ℕ) → p < n → get_or Written (place_in chain p) 0 ≡ get_or stored (place_in (get_or c.chains slot []) p) 0
   old-byte g p h =
       let lt : p / 512 < length (get_or c.chains slot []) = omega (arith, g.area.lengths slot g.inside, g.is, h) in

@@ -26,7 +26,7 @@ all-weaker : {X : Type 0} (P Q : X → Type 0) (xs : List X) → ((x : X) → P 
 all-weaker P Q [] each all = tt
 all-weaker P Q (x ∷ xs) each all = (each x all.0, all-weaker P Q xs each all.1)
 
--- the first file stands before the one at a later place
+-- the first file is before the one at a later place
 first-before : (g : File) (gs : List File) (i : ℕ) (d : File) → AreInOrder (names_of (g ∷ gs)) → i < length gs → is_before g.name (get_or gs i d).name ≡ true
 first-before g gs i d order h = all-get_or (λ f. is_before g.name f.name ≡ true) gs i d (all-names (λ m. is_before g.name m ≡ true) gs order.0) h
 
@@ -43,7 +43,7 @@ module _ (f : File) where
       ap (λ xs. xs ++ f ∷ filter After gs) (filter-none Before gs (all-weaker (λ g. After g ≡ true) (λ g. Before g ≡ false) gs (λ g h. is_before-back f.name g.name h) all))
       ∙ ap (λ xs. f ∷ xs) (filter-all After gs all)
 
-  -- a file that stands before it stays in front
+  -- a file that is before it stays in front
   with_file-front : (g : File) (gs : List File) → Before g ≡ true → with_file f (g ∷ gs) ≡ g ∷ with_file f gs
   with_file-front g gs h =
       ap (λ b. cond b (g ∷ filter Before gs) (filter Before gs) ++ f ∷ filter After (g ∷ gs)) h

@@ -67,7 +67,7 @@ module _ (names : List (List ℕ)) (a : Area) (used unused : List ℕ) (ps : Lis
             place-still-valid a a used (insert used i s) ps k p was (omega (arith, was.is_there, times-insert p.slot used i s)) refl refl;
       }
 
-  -- a file goes on which no stream stands
+  -- a file that no stream is on goes
   pub keep-delete : (b : Area) (i : ℕ) → AreKept names a used unused ps → i < length used → list_any (is_on_slot (get_or used i 0)) ps ≡ false
       → Empties a b (get_or used i 0) → AreKept names b (remove used i) (unused ++ get_or used i 0 ∷ []) ps
   keep-delete b i h lt none e =

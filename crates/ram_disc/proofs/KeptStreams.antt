@@ -20,11 +20,11 @@ some-same p q e = cc
 pub none-some : (p : Place) → None ≡ Some p → ⊥
 none-some p e = cc
 
--- a stream stands at a number of the disc
+-- a stream is at a number of the disc
 pub place-inside : (ps : List (Option Place)) (k : ℕ) (p : Place) → get_or ps k None ≡ Some p → k < length ps
 place-inside ps k p e = elim (cases_lt k (length ps)) [ inl h ↦ h | inr past ↦ absurd (none-some p (sym (get_or_past ps k None past) ∙ e)) ]
 
--- no stream stands on the slot
+-- no stream is on the slot
 pub place-other : (ps : List (Option Place)) (s k : ℕ) (p : Place) → list_any (is_on_slot s) ps ≡ false → get_or ps k None ≡ Some p → p.slot ≢ s
 place-other ps s k p none e =
     eqb-false p.slot s (ap (is_on_slot s) (sym e) ∙ any-none (is_on_slot s) ps none k (place-inside ps k p e))
@@ -39,7 +39,7 @@ pub record Comes (a : Area) (used : List ℕ) (ps : List (Option Place)) (k : �
   pub shell_reads : k + 1 ≡ shell_stream → p.writes ≡ false
   pub sector : p.position < length (bytes_at a p.slot) → p.sector ≡ get_or (chain_at a p.slot) (p.position / 512) 0
 
--- a stream stands as before, where its slot's bytes and sectors are as before
+-- a stream is as before, where its slot's bytes and sectors are as before
 pub place-still-valid : (a b : Area) (used other : List ℕ) (ps : List (Option Place)) (k : ℕ) (p : Place) → IsValidPlace a used ps k p → 0 < times p.slot other
     → bytes_at b p.slot ≡ bytes_at a p.slot → chain_at b p.slot ≡ chain_at a p.slot → IsValidPlace b other ps k p
 place-still-valid a b used other ps k p h is bytes chain = record {
@@ -157,7 +157,7 @@ module _ (names : List (List ℕ)) (a : Area) (used unused : List ℕ) (ps : Lis
         );
       }
 
-  -- a slot on which no stream stands is emptied
+  -- a slot that no stream is on is emptied
   pub keep-clear : (b : Area) (i : ℕ) → AreKept names a used unused ps → i < length used → list_any (is_on_slot (get_or used i 0)) ps ≡ false
       → Empties a b (get_or used i 0) → AreKept names b used unused ps
   keep-clear b i h lt none e = record {
@@ -171,7 +171,7 @@ module _ (names : List (List ℕ)) (a : Area) (used unused : List ℕ) (ps : Lis
         (e.others p.slot other);
   }
 
-  -- bytes come behind those of a slot, and the stream that writes it stands behind them
+  -- bytes come behind those of a slot, and the stream that writes it is behind them
   pub keep-append : (b : Area) (i k : ℕ) (p q : Place) (more : List ℕ) → AreKept names a used unused ps → i < length used → get_or ps k None ≡ Some p
       → p.writes ≡ true → get_or used i 0 ≡ p.slot → Adds a b (get_or used i 0) more
       → q.slot ≡ p.slot → q.writes ≡ true → q.position ≡ p.position + length more

@@ -18,7 +18,7 @@ use Rattle.ram_disc.proofs.StreamLemmas.{is_used-at, is_written-at}
 abbrev pub MayWrite : List (Option Place) → ℕ → ℕ → ℕ → ℕ → Bool
 MayWrite ps k slot place size = not (eqb k shell_stream) && (eqb place size && not (list_any (is_on_slot slot) ps))
 
--- whether it may stand there
+-- whether it may be there
 abbrev pub May : List (Option Place) → ℕ → ℕ → ℕ → ℕ → Bool → Bool
 May ps k slot place size writes = leb place size && not (list_any (writes_on slot) ps) && (not writes || MayWrite ps k slot place size)
 

@@ -79,7 +79,7 @@ pub not-elsewhere : (s slot k : ℕ) (xs : List (List ℕ)) (free : List ℕ) �
     → k ≢ slot → 0 < times s (get_or xs slot []) + times s free → times s (get_or xs k []) ≡ 0
 not-elsewhere s slot k xs free once h j ne some = omega (arith, two-counts s k slot xs ne j h, one-count s k xs j)
 
--- what is in the chain of a slot stands below the number of sectors
+-- what is in the chain of a slot is below the number of sectors
 pub chained-below : (links : List ℕ) (cs : List Chain) (free left slot k : ℕ) → AreChained links cs free left → slot < length cs
     → k < length (get_or (chains_of links cs) slot []) → get_or (get_or (chains_of links cs) slot []) k 0 < most_sectors
 chained-below links cs free left slot k h lt within =
@@ -189,7 +189,7 @@ module _ (links : List ℕ) (cs : List Chain) (free m slot first last n : ℕ) (
       (longer-chain links first last n free (ends-at g) (slot-once g) (slot-inside g) ∙ ap (λ xs. xs ++ free ∷ []) (sym (chain-at g)))
       (others-stay g)
 
-  -- how often a sector stands in the chains then
+  -- how often a sector is in the chains then
   pub counts-grow : Grows → (s : ℕ)
       → times_in s (chains_of Links (set cs slot (with_last (chain first last n) free))) ≡ times_in s (chains_of links cs) + hit s free
   counts-grow g s =

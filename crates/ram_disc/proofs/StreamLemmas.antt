@@ -1,4 +1,4 @@
--- The streams of a disc, and the slots that they stand on.
+-- The streams of a disc, and the slots that they are on.
 use Rattle.std.proofs.Common.{◌≡◌, ℕ, zero, suc, ◌+◌, ◌-◌, ◌<◌, List, [], ◌∷◌, length, get_or, take, cond, eqb, ltb, ◌&&◌, ◌||◌, Bool, true, false, Option, Some, None, refl, sym, ap, ◌∙◌, arith, inl, inr}
 use Rattle.std.specs.List.{list_any, position, position_or_len}
 use Rattle.std.specs.Option.{is_none}
@@ -34,7 +34,7 @@ any-none g (p ∷ ps) none (suc k) h = any-none g ps (on (g p) none) k (omega ar
     on true e = absurd (true≢false e)
     on false e = e
 
--- a stream, and where it stands
+-- a stream, and where it is
 pub get_or-streams : (names : List (List ℕ)) (ps : List (Option Place)) (k : ℕ) → get_or (streams_in names ps) k None ≡ stream_in names (get_or ps k None)
 get_or-streams names [] k = refl
 get_or-streams names (p ∷ ps) zero = refl
@@ -64,7 +64,7 @@ free-stream names ps n =
     ∙ ap (λ l. cond (ltb (position_or_len is_none (take n ps)) l) (Some (position_or_len is_none (take n ps))) None) (length-map (take n ps) (stream_in names))
 
 module _ (names : List (List ℕ)) (a : Area) (used unused : List ℕ) (ps : List (Option Place)) where
-  -- a stream is open on the file of a slot where it stands on the slot
+  -- a stream is open on the file of a slot where it is on the slot
   on-slot : AreSlots names used unused → (name : List ℕ) (i t : ℕ) → IsAt names used name i → 0 < times t used
       → bytes_eq (name_in names t) name ≡ eqb t (get_or used i 0)
   on-slot h name i t at some =

@@ -26,7 +26,7 @@ module _ (names : List (List ℕ)) (a : Area) (used unused : List ℕ) (ps : Lis
   files : AreKept names a used unused ps → HasFiles names a.bytes used unused D
   files h = record { slots = h.slots; files = refl }
 
-  -- where the file of a stream stands
+  -- where the file of a stream is
   pub spot-at : AreKept names a used unused ps → (p : Place) → 0 < times p.slot used → (i : ℕ) × (get_or used i 0 ≡ p.slot) × IsAt names used (name_in names p.slot) i
   spot-at h p some = (let spot = place-times p.slot used some in (spot.0, spot.2, record { within = spot.1; is = ap (name_in names) spot.2 }))
 

@@ -14,7 +14,7 @@ use Rattle.ram_disc.proofs.NameOrder.{get_or-all}
 use Rattle.ram_disc.proofs.SlotLemmas.{HasFiles, bytes_of-at, get_or-files, has_file-at, length-files, ordered, slots-distinct}
 use Rattle.ram_disc.proofs.StreamLemmas.{stream_at-place}
 
--- stream k stands at number k - 1
+-- stream k is at number k - 1
 pub place-number : (ps : List (Option Place)) (k : ℕ) (p : Place) → place_in ps k ≡ Some p → (0 < k) × (get_or ps (k - 1) None ≡ Some p)
 place-number ps k p e =
     elim (cases_eq k 0) [
@@ -26,7 +26,7 @@ place-number ps k p e =
 abbrev pub stream_of_place : List (List ℕ) → Place → Stream
 stream_of_place names p = record { name = name_in names p.slot; position = p.position; writes = p.writes }
 
--- an open stream stands somewhere
+-- an open stream is somewhere
 pub open-place : (names : List (List ℕ)) (ps : List (Option Place)) (d : Disc) (k : ℕ) (s : Stream) → stream_at d k ≡ stream_in names (place_in ps k)
     → stream_at d k ≡ Some s → (p : Place) × (place_in ps k ≡ Some p) × (stream_of_place names p ≡ s)
 open-place names ps d k s at e = on (place_in ps k) refl

@@ -1,4 +1,4 @@
-// The bytes of a disc's files. Each slot has a chain of sectors, as many as its bytes take, and its bytes stand in them.
+// The bytes of a disc's files. Each slot has a chain of sectors, as many as its bytes take, and its bytes are in them.
 ghost use Rattle.std.specs.Prelude.{◌≡◌, ◌≢◌, ◌+◌, ◌*◌, ◌/◌, ◌%◌, ◌^◌, ◌<◌, ◌≤◌, ◌↔◌, ℕ, [], ◌∷◌, ◌++◌, IfOk, IsTrue, drop, length, replicate, take, vec_len, slice_index, slice_index_or};
 ghost use Rattle.ram_disc.specs.Contents.{Adds, Empties, Reserves, bytes_at, chain_at, with_piece};
 ghost use Rattle.ram_disc.specs.Disc.{most_files, most_sectors, sectors_of};
@@ -13,7 +13,7 @@ use std::marker::Model;
 /// The bytes of a sector.
 pub(crate) const SECTOR_BYTES: u32 = 512;
 
-/// The sectors of all slots, and what stands in them.
+/// The sectors of all slots, and what is in them.
 #[derive(Drop)]
 pub(crate) struct Contents {
     /// The chains of sectors of the slots.
@@ -157,7 +157,7 @@ impl Contents {
         &self.bytes[start..start + count]
     }
 
-    // The sector of the position after so many bytes of this sector, of which the first stands at the position.
+    // The sector of the position after so many bytes of this sector, of which the first is at the position.
     fn sector_after(&self, slot: usize, position: u32, sector: u16, count: u32) -> u16
         requires slot { slot < most_files }
         requires some { 0 < count }
@@ -238,7 +238,7 @@ fn sectors_for(size: u32) -> u32
     size.div_ceil(SECTOR_BYTES)
 }
 
-// Where the byte at a position stands, in its sector.
+// Where the byte at a position is, in its sector.
 fn place(sector: u16, position: u32) -> usize
     ensures { result ≡ 512 * sector + position % 512 }
 {

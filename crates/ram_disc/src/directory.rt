@@ -1,4 +1,4 @@
-// The names of a disc's files. A slot is used by a file, or it is not; the used ones stand in byte order of their names.
+// The names of a disc's files. A slot is used by a file, or it is not; the used ones are in byte order of their names.
 ghost use Rattle.std.specs.Prelude.{◌≡◌, ◌≢◌, ◌<◌, ◌≤◌, ◌++◌, ◌∷◌, ℕ, [], None, IfOk, MatchOption, MatchResult, length, vec_len, slice_index, slice_set};
 ghost use Rattle.std.specs.List.{insert, range_with_len, remove};
 ghost use Rattle.arrayvec.specs.ArrayVec.{array_vec_len};

@@ -31,7 +31,7 @@ pub struct Disc {
     contents: Contents,
     /// The names of the slots.
     directory: Directory,
-    /// Where the streams stand, from stream 1 on; `None` where one is not open.
+    /// Where the streams are, from stream 1 on; `None` where one is not open.
     streams: [Option<Place>; STREAMS],
 }
 
@@ -271,7 +271,7 @@ impl Disc {
         Ok(())
     }
 
-    /// Sets stream k on a place of a file, as `stream` told it. The answer is false where the stream may not stand there;
+    /// Sets stream k on a place of a file, as `stream` told it. The answer is false where the stream may not be there;
     /// then nothing changes.
     pub fn restore_stream(&mut self, k: u32, name: &Name, pos: u32, write: bool) -> bool
         ensures answer { result ≡ can_restore self.old k name.now pos write }

@@ -27,7 +27,7 @@ impl Model for Name {
     ghost inverse = { λ bytes. record { bytes = record { items = bytes } } };
 }
 
-/// The name `-`, which stands in the unused places of a list of names.
+/// The name `-`, which is in the unused places of a list of names.
 impl Default for Name {
     ghost is_default = { λ n. n ≡ codes "-" };
 

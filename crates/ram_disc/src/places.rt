@@ -1,4 +1,4 @@
-// Where the streams of a disc stand.
+// Where the streams of a disc are.
 ghost use Rattle.std.specs.Prelude.{◌≡◌, ◌+◌, ◌<◌, ◌^◌, ◌==◌, ◌&&◌, ◌||◌, nat_le, not, Some, true, length, if◌then◌else◌, position, take};
 ghost use Rattle.std.specs.List.{list_any};
 ghost use Rattle.std.specs.Option.{is_none};
@@ -10,7 +10,7 @@ pub(crate) const STREAMS: usize = 17;
 
 const SHELL: usize = 16;
 
-/// Where a stream stands: the slot of its file, the position in it, the sector of that position, where it is in the
+/// Where a stream is: the slot of its file, the position in it, the sector of that position, where it is in the
 /// file, and whether the stream writes.
 #[derive(Clone, Copy)]
 pub(crate) struct Place {
@@ -75,7 +75,7 @@ pub(crate) fn free_stream(streams: &[Option<Place>]) -> Option<usize>
     streams[..SHELL].iter().position(|place| place.is_none())
 }
 
-/// Where stream k stands, from 1, where it is open.
+/// Where stream k is, from 1, where it is open.
 pub(crate) fn place_at(streams: &[Option<Place>], k: u32) -> Option<Place>
     ensures { result ≡ place_in streams.now k }
 {
@@ -104,7 +104,7 @@ pub(crate) fn is_free(streams: &[Option<Place>], k: u32) -> bool
     1 <= k && k <= STREAMS as u32 && place_at(streams, k).is_none()
 }
 
-/// Whether stream k may stand on a slot at this position, where the slot has so many bytes. A stream that writes stands
+/// Whether stream k may be on a slot at this position, where the slot has so many bytes. A stream that writes is
 /// at their end, and with no other on the slot.
 pub(crate) fn may_be_placed(
     streams: &[Option<Place>],

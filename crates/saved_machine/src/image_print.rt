@@ -1,4 +1,4 @@
-// The text of a machine as it stands, printed.
+// The text of a machine as it is, printed.
 mod files;
 mod heads;
 mod keys;

@@ -1,4 +1,4 @@
--- A statement that is accepted behind the head stands behind those that were.
+-- A statement that is accepted behind the head is behind those that were.
 use Rattle.std.proofs.Common.{◌≡◌, ◌∙◌, ℕ, ◌<◌, ◌≤◌, ◌+◌, ◌%◌, ◌==◌, ◌^◌, ◌&&◌, Bool, true, false, not, cond, Option, Some, None, Result, Ok, Err, List, [], ◌∷◌, ◌++◌, length, map, nat_lt, nat_le, refl, sym, ap, subst, arith, append_assoc}
 use Rattle.std.specs.Prelude.{IsTrue, slice_set}
 use Rattle.std.specs.List.{flat_map}

@@ -39,7 +39,7 @@ pub leads-append : (p : Place) (x : Image) (a b : List Statement) (m d : Draft) 
 leads-append p x [] b m d h k = subst (λ (e : Draft). Leads e.place e.image b d) (sym h) k
 leads-append p x (s ∷ a) b m d h k = (h.0, (h.1.0, h.1.1, leads-append h.1.0.place h.1.0.image a b m d h.1.2 k))
 
--- a place where the last line may stand has a statement next
+-- a place where the last line may be has a statement next
 pub entry_at : (p : Place) (x : Image) (n : ℕ) (line : List ℕ) → has_go p ≡ true → step (draft p x) n line ≡ entry_step p x n line
 unfolding step
 entry_at AtVersion x n line e = cc e
@@ -116,7 +116,7 @@ module _ (x : Image) where
         ),
       )
 
-  -- a name that stands behind the others
+  -- a name that is behind the others
   behind_is : (front : List SavedFile) (f : SavedFile) (more : List SavedFile) → AreFiles (front ++ f ∷ more) → (is_behind front f.name ≡ true) × (is_name f.name ≡ true)
   behind_is [] f [] h = (refl, h)
   behind_is [] f (g ∷ more) h = (refl, h.0)

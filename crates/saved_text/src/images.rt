@@ -4,7 +4,7 @@ use ram_disc::Name;
 use session_text::{Bytes, Keys};
 use word_store::{Regs, Store};
 
-/// A saved machine as its text has it, and the steps that it is to take. What stands in it may pass the limits of a machine:
+/// A saved machine as its text has it, and the steps that it is to take. What is in it may pass the limits of a machine:
 /// then no machine stands for it.
 #[derive(Drop)]
 pub struct Image {

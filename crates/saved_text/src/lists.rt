@@ -83,7 +83,7 @@ impl Files {
     }
 }
 
-// Whether the one name stands before the other in byte order.
+// Whether the one name is before the other in byte order.
 fn is_before(a: &[u8], b: &[u8]) -> bool
     ensures { result ≡ is_before a.now b.now }
 {

@@ -20,7 +20,7 @@ pub struct ReadImage {
 }
 
 /// The saved machine of a text. Unless memory runs out, `Bad` comes exactly where the text is none, with the first line in
-/// error, from 1, and its code: 1 where no such form may stand there, or a name, a number or an address does not rise, 2
+/// error, from 1, and its code: 1 where no such form may be there, or a name, a number or an address does not rise, 2
 /// where a number or a name is out of its range, and 3 where the text ended before its `GO` line, which is one more than the
 /// lines that there are. `WantMemory` comes only where memory could not be had.
 pub fn read_image(alloc: Global, text: &[u8]) -> Result<ReadImage, TextEnd>

@@ -37,7 +37,7 @@ HasNoBlank-field field h = HasNoBlank-graphic field (and_parts _ (list_all is_as
 
 -- ---- the first blank
 
--- it stands behind what has none
+-- it is behind what has none
 first_blank : (front rest : List ℕ) → HasNoBlank front → position_or_len blank (front ++ 32 ∷ rest) ≡ length front
 first_blank [] rest h = refl
 first_blank (c ∷ cs) rest h =

@@ -57,7 +57,7 @@ code_again s n (c ∷ cs) (l ∷ ls) last go h g t =
 
 -- ---- entries
 
--- the places where an entry may stand
+-- the places where an entry may be
 abbrev pub MayHaveEntry : Place → Type 0
 MayHaveEntry AtResident = Unit {0}
 MayHaveEntry AtDebug = Unit {0}
@@ -91,7 +91,7 @@ no_debug (Go steps) line h = ap (λ l. bytes_eq l (codes "DEBUG")) h.1
 entry_again : (s : Session) (n : ℕ) (line : List ℕ) (x : Statement) → States x line → names_fit s.version x ≡ true → is_in_range s.version x ≡ true → entry_step s n line ≡ Ok (with_statement s n x)
 entry_again s n line x h f r = rw (statement_of-again s.version line x h, f, r) refl
 
--- a statement's line is read as one, where it may stand
+-- a statement's line is read as one, where it may be
 pub enters : (p : Place) (s : Session) (n : ℕ) (line : List ℕ) (x : Statement) → MayHaveEntry p → States x line → step (draft p s) n line ≡ entry_step s n line
 unfolding step
 enters AtVersion s n line x a h = absurd a

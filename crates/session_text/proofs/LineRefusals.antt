@@ -78,7 +78,7 @@ fixed_form Key line h e = cc e
 fixed_form Go line h e = cc e
 fixed_form (Fixed bytes) line h e = ap (λ (l : List ℕ). Fixed l) (sym h)
 
--- ---- which forms stand where
+-- ---- which forms are where
 
 -- lines of this shape state something
 abbrev pub IsEntryForm : Form → Type 0
@@ -87,7 +87,7 @@ IsEntryForm Tick = ⊥
 IsEntryForm (Fixed bytes) = ⊥
 IsEntryForm _ = Unit {0}
 
--- lines of this shape may stand at the place
+-- lines of this shape may be at the place
 abbrev pub MayComeAt : Place → Form → Type 0
 MayComeAt AtStore Store = Unit {0}
 MayComeAt AtMachine Tick = Unit {0}
@@ -135,7 +135,7 @@ not_fixed AtEnd h = h
 abbrev IsKindAt : Place → List ℕ → Type 0
 IsKindAt p line = (kind line ≡ Fixed []) ⊎ MayComeAt p (kind line)
 
--- a statement stands at each place for entries
+-- a statement is at each place for entries
 statement_may_come : (p : Place) (x : Statement) → MayHaveEntry p → MayComeAt p (shape (form_of x))
 statement_may_come p (FileOf name) a = entry_may_come p File a tt
 statement_may_come p (TaskOf id pri stack names) a = entry_may_come p (Task 0) a tt
@@ -170,7 +170,7 @@ text_kind : (s : Session) (n : ℕ) (line : List ℕ) (e : Draft) (o : Option (L
 text_kind s n line e None w h = entry_kind AtText s n line e tt h
 text_kind s n line e (Some text) w h = colon_kind AtText line text w
 
--- an accepted line is of a kind that may stand there
+-- an accepted line is of a kind that may be there
 accepted_kind : (p : Place) (s : Session) (n : ℕ) (line : List ℕ) (e : Draft) → step (draft p s) n line ≡ Ok e → IsKindAt p line
 unfolding step
 accepted_kind AtVersion s n line e h =
@@ -201,7 +201,7 @@ accepted_kind AtEntry s n line e h = entry_kind AtEntry s n line e tt h
 accepted_kind AtText s n line e h = text_kind s n line e (after_word (codes ":") line) refl h
 accepted_kind AtEnd s n line e h = cc h
 
--- so a form that has an accepted line has that line alone, or stands there
+-- so a form that has an accepted line has that line alone, or is there
 accepted_form : (p : Place) (s : Session) (n : ℕ) (form : Form) (line : List ℕ) (e : Draft) → HasForm form line → step (draft p s) n line ≡ Ok e → (form ≡ Fixed line) ⊎ MayComeAt p (shape form)
 accepted_form p s n form line e has h =
     elim (kind-form form line has) [
@@ -225,7 +225,7 @@ IsWrong d n line r =
     ((refusal n 1 ≡ r) × ((form : Form) → Accepts d n form → ¬ HasForm form line))
     ⊎ ((refusal n 2 ≡ r) × ((form : Form) × Accepts d n form × HasForm form line))
 
--- a line that has none of the forms that stand there
+-- a line that has none of the forms that are there
 module _ (p : Place) (s : Session) (n : ℕ) (line : List ℕ) (r : Refusal) (refused : step (draft p s) n line ≡ Err r) where
   pub wrong_form : refusal n 1 ≡ r → ((form : Form) → MayComeAt p (shape form) → Accepts (draft p s) n form → ¬ HasForm form line) → IsWrong (draft p s) n line r
   wrong_form code lacks = inl (

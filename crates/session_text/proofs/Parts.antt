@@ -63,12 +63,12 @@ made-entry s n x texts entries go h =
 
 -- ---- what is left of a text
 
--- The place before an entry: whether text of the last file may stand there.
+-- The place before an entry: whether text of the last file may be there.
 abbrev pub entry_place : Bool → Place
 entry_place true = AtText
 entry_place false = AtEntry
 
--- lines from line n on are text of the last file (where it may stand), entries and the steps
+-- lines from line n on are text of the last file (where it may be), entries and the steps
 pub record HasRest (in_file : Bool) (s : Session) (n : ℕ) (lines : List (List ℕ)) (whole : Session) : Type 0 where
   pub texts : List (List ℕ)
   pub entries : List Entry

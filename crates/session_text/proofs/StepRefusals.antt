@@ -266,7 +266,7 @@ tick_wrong s n line r refused e =
       | inr p ↦ cc p.2
     ]
 
--- a refused line has no form that stands there, or one but for its numbers and names
+-- a refused line has no form that is there, or one but for its numbers and names
 pub step-err : (p : Place) (s : Session) (n : ℕ) (line : List ℕ) (r : Refusal) → step (draft p s) n line ≡ Err r → IsWrong (draft p s) n line r
 unfolding step
 step-err AtVersion s n line r h =

@@ -28,7 +28,7 @@ module _ (front : List (List ℕ)) (at : Draft) (before : advance first_draft 1 
       let a = advance-begin (front ++ line ∷ []) (begin_lines (front ++ line ∷ []) b) in
       (a.0, sym (advance-more first_draft at 1 (1 + length front) front line refl before) ∙ a.1)
 
-  -- so a form may stand there where one of its lines is accepted
+  -- so a form may be there where one of its lines is accepted
   may_follow : (form : Form) → Accepts at (1 + length front) form → MayFollow front form
   may_follow form a = (a.0, a.1, next_begins a.0 a.2 a.3)
 

@@ -1,4 +1,4 @@
-// The fields of a line, which stand between blanks.
+// The fields of a line, which are between blanks.
 ghost use Rattle.std.specs.Prelude.{◌≡◌, ◌==◌, ◌||◌, length, option_map};
 ghost use Rattle.std.specs.Char.{is_ascii_graphic};
 ghost use Rattle.std.specs.List.{list_all, position};
@@ -6,7 +6,7 @@ ghost use Rattle.session_text.specs.Statements.{are_fields, fields, is_field, is
 
 use module_text::number;
 
-/// What stands before and after the first blank; `None` exactly where there is none.
+/// What is before and after the first blank; `None` exactly where there is none.
 pub fn split_at_blank(text: &[u8]) -> Option<(&[u8], &[u8])>
     ensures { option_map (λ x. (x.0.now, x.1.now)) result ≡ split_at_blank text.now }
 {
@@ -22,7 +22,7 @@ fn first_blank(text: &[u8]) -> Option<usize>
     text.iter().position(|c| *c == b' ')
 }
 
-/// The number before the first blank, and what stands after that; `None` exactly where there are not both.
+/// The number before the first blank, and what is after that; `None` exactly where there are not both.
 pub fn number_field(text: &[u8]) -> Option<(u64, &[u8])>
     ensures { option_map (λ x. (x.0, x.1.now)) result ≡ number_field text.now }
 {

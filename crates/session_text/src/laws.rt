@@ -14,7 +14,7 @@ pub fn session_law()
 {}
 
 /// A text is refused at its first line in error: some session has a text that begins with the lines before it, and none
-/// has one that begins with the lines up to it. The code is 1 exactly where no form that may stand there has the line's
+/// has one that begins with the lines up to it. The code is 1 exactly where no form that may be there has the line's
 /// bytes, and 2 where one has but for its numbers and names. Code 3 comes exactly where all lines begin a session's text,
 /// and are none.
 pub fn refusal_law()

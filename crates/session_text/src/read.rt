@@ -11,7 +11,7 @@ use module_text::{TextEnd, split_line};
 use std::alloc::Global;
 
 /// The session of a text. Unless memory runs out, `Bad` comes exactly where the text is none, with the first line in
-/// error, from 1, and its code: 1 where no such form may stand there, 2 where a number or a name is out of its range, and
+/// error, from 1, and its code: 1 where no such form may be there, 2 where a number or a name is out of its range, and
 /// 3 where the text ended before its `GO` line, which is one more than the lines that there are. `WantMemory` comes only
 /// where memory could not be had.
 pub fn read_session(alloc: Global, text: &[u8]) -> Result<Session, TextEnd>

@@ -8,7 +8,7 @@ ghost use Rattle.session_text.specs.Statements.{HasFewNames, at_of, file_of, go_
 use crate::fields::{are_fields, is_field, is_text, number_field};
 use module_text::{after_word, number};
 
-/// What a line states, with its numbers and names as they stand there.
+/// What a line states, with its numbers and names as they are there.
 #[derive(Clone, Copy)]
 pub enum Statement<'a> {
     /// A file of this name.
@@ -21,14 +21,14 @@ pub enum Statement<'a> {
         pri: u64,
         /// The highest index of its stack, in words.
         stack: u64,
-        /// The names, as they stand in the line.
+        /// The names, as they are in the line.
         names: &'a [u8],
     },
     /// Text that is typed at a step.
     At {
         /// The step of the first key.
         step: u64,
-        /// The text, as it stands in the line.
+        /// The text, as it is in the line.
         text: &'a [u8],
     },
     /// A key that is typed at a step.

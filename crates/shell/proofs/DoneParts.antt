@@ -26,11 +26,11 @@ use Rattle.shell.proofs.RunningShell.{GoesOn, posted-running}
 
 -- ---- the store
 
--- its words are those of the standing
+-- its words are those of the store with its lists
 pub store_with_lists-is : {t : List ℕ} {tells : List ℕ → Type 0} {room : ℕ} {k : StoreWithLists} → RepresentsStoreWithLists t tells room k → store_with_lists t k.lists ≡ k
 store_with_lists-is {k = k} h = λ i. record { words = h.words i; lists = k.lists }
 
--- what a change leaves of a store that stands
+-- what a change leaves of a store with its lists
 pub left-represents : {t : List ℕ} {tells : List ℕ → Type 0} {room : ℕ} {k : StoreWithLists} → RepresentsStoreWithLists t tells room k → (u : List ℕ) (told : List ℕ → Type 0) (after : ℕ) (l : Lists) (plain : Pairs)
     → IsChanged t u l plain → Knows told l → after ≡ room → RepresentsStoreWithLists u told after (left_with k.words l plain)
 left-represents {t = t} {k = k} h u told after l plain x knows room_is =
@@ -93,7 +93,7 @@ done-disc h after e same =
       is = h.is;
     }
 
--- the store stands otherwise, and these events were noted
+-- the store is otherwise, and these events were noted
 pub done-then : {b : Start} {t : List ℕ} {tells : List ℕ → Type 0} {room : ℕ} {now : Outside} {sh : Shell} {d : Disc} {fin : Bool} {x : ShellTurn}
     → IsDone b t tells room now sh d fin x → {u : List ℕ} {told : List ℕ → Type 0} {after : ℕ} {k : StoreWithLists} → RepresentsStoreWithLists u told after k → after ≡ room
     → (noted : Option (List KernelEvent)) (failed : Bool) (events : List KernelEvent) → NotesAll now.noted noted now.failed failed events

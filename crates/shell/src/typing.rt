@@ -93,7 +93,7 @@ fn type_piece(disc: &mut Disc, bytes: &mut Output)
     bytes.append(&piece[..count as usize]);
 }
 
-// Whether the shell's stream stands at the end of its file.
+// Whether the shell's stream is at the end of its file.
 fn is_typed(disc: &Disc) -> bool
     ensures { result ≡ is_typed disc.now }
 {

@@ -16,7 +16,7 @@ name_of id =
     if id == OUTPUT then codes "the output" else
     joined (codes "task " ∷ decimal id ∷ [])
 
--- the queue of a place; that of a task stands in the lines of that task
+-- the queue of a place; that of a task is in the lines of that task
 abbrev pub queue_name : Place → List ℕ
 queue_name Clock = codes "the clock"
 queue_name Keyboard = codes "the keyboard"

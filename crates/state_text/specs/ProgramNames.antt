@@ -1,4 +1,4 @@
--- The names of programs. A kernel knows none of them: a module is that of a program where its words stand.
+-- The names of programs. A kernel knows none of them: a module is that of a program where it has its words.
 use Rattle.std.specs.Prelude.{ℕ, ◌+◌, Bool, Option, Some, None, List, [], ◌∷◌, codes, drop, nat_eq}
 use Rattle.std.specs.List.{find, starts_with}
 use Rattle.std.specs.Option.{option_map, option_or}
@@ -18,7 +18,7 @@ is_loaded words m p = starts_with nat_eq (drop (m + 1) words) (loaded_words m p)
 abbrev pub program_name : Program → List ℕ
 program_name p = p.name
 
--- the name of the first of the programs that stands at m, if one does
+-- the name of the first of the programs that is at m, if one is
 abbrev pub name_in : List Program → List ℕ → ℕ → Option (List ℕ)
 name_in programs words m = option_map program_name (find (is_loaded words m) programs)
 

@@ -66,12 +66,12 @@ next_line s = if is_past (stop_of s) then [] else instruction_line s
 unfoldable pub kernel_text : (ℕ → Option (List ℕ)) → Lists → List ℕ → List ℕ
 kernel_text name_at l blocks = joined (tasks_text name_at l ∷ queues_text l ∷ codes "blocks\n" ∷ blocks ∷ modules_text name_at l ∷ [])
 
--- a module has the name of the first of the programs whose words stand there; a machine without a kernel has no lists
+-- a module has the name of the first of the programs whose words are there; a machine without a kernel has no lists
 abbrev pub lists_text : List Program → State → List ℕ
 lists_text programs (Bare m) = []
 lists_text programs (Full k) = kernel_text (name_in programs (words_of (Full k))) k.lists (blocks_text (Full k))
 
--- the whole: where it stands, who runs, which tasks wait for ever, the registers, the next instruction, and the lists, with the names of these programs
+-- the whole: where it is, who runs, which tasks wait for ever, the registers, the next instruction, and the lists, with the names of these programs
 unfoldable pub state_text : List Program → State → List ℕ
 state_text programs s =
     joined (count_words s ∷ stop_line (stop_of s) ∷ runner_text s ∷ deadlock_text s ∷ registers_line (regs_of s) (running_of s) ∷ next_line s

@@ -1,4 +1,4 @@
-// The programs whose modules stand in a store, by their words.
+// The programs whose modules are in a store, by their words.
 ghost use Rattle.std.specs.Prelude.{◌≡◌, ◌+◌, ◌<◌, ◌≤◌, ◌^◌, ◌++◌, IsTrue, drop, length, nat_eq, slice_index};
 ghost use Rattle.std.specs.List.{starts_with};
 ghost use Rattle.std.specs.Option.{option_copied};
@@ -19,7 +19,7 @@ pub struct Program {
     pub hunks: Hunks,
 }
 
-/// The name of the first of the programs that stands at m, if one does.
+/// The name of the first of the programs that is at m, if one is.
 pub(crate) fn name_in<'a>(programs: &'a [Program], store: &Store, m: u32) -> Option<&'a [u8]>
     ensures { option_copied result ≡ name_in programs.now store.now m }
 {
@@ -31,7 +31,7 @@ pub(crate) fn name_in<'a>(programs: &'a [Program], store: &Store, m: u32) -> Opt
     None
 }
 
-// Whether the words of the program stand at m, but for the link.
+// Whether the words of the program are at m, but for the link.
 fn is_loaded(program: &Program, store: &Store, m: u32) -> bool
     ensures { result ≡ is_loaded store.now m program.now }
 {

@@ -25,7 +25,7 @@ use word_store::Store;
 /// Gathers the state of a machine, a line for each fact. The first line says after how many steps it is, at which tick, and whether the
 /// machine has stopped; then come who runs, or why nobody does, the tasks that wait or are held for ever, the registers, and the instruction at PC, which is a byte address.
 /// Behind these a machine with a kernel has its tasks with their packets, each queue, the blocks and the modules; their addresses are
-/// word addresses, and sizes are in words. A module, and a task, has the name of the first of the programs whose words stand there. A
+/// word addresses, and sizes are in words. A module, and a task, has the name of the first of the programs whose words are there. A
 /// machine without a kernel has no tick, and none of these lists.
 #[tactic(auto, unfolding(crate::specs::StateText::state_text))]
 pub fn gather_state<K: Sink>(
@@ -229,7 +229,7 @@ fn gather_lists<K: Sink>(
     }
 }
 
-// The lists of the kernel that stands in the store, which is that of the machine.
+// The lists of the kernel that is in the store, which is that of the machine.
 #[tactic(auto, unfolding(crate::specs::StateText::kernel_text))]
 fn gather_kernel<K: Sink>(
     machine: &Machine,

@@ -87,7 +87,7 @@ pub left-last : (i m n : ℕ) (s t u : State) (old new : List ℕ) → t ≡ (ru
 left-last i m n s t u old new at some few last left wrote =
     inr (i, m, some, few, subst (λ (z : State). stop_of (run (m - 1) z).state ≡ None) at last, left ∙ ap (λ (z : State). (run m z).state) at ∙ sym (ap (λ (x : Stepped). x.state) (run-more i m s)), wrote ∙ ap (λ (z : State). (run m z).bytes) at)
 
--- ---- the end of a run, by how the machine stands
+-- ---- the end of a run, by how the machine is
 
 pub ends-stopped : (o : Option Stop) (stop : Stop) → Some stop ≡ o → stop ≡ end_of_run o
 ends-stopped None stop e = cc

@@ -11,7 +11,7 @@ use kernel_machine::machine_boot::boot as boot_kernel;
 use session_text::{BootEnd, Session};
 use std::alloc::Global;
 
-/// The machine of a session before its first step. On a bare machine its code stands in the store from byte 800 on, and the first
+/// The machine of a session before its first step. On a bare machine its code is in the store from byte 800 on, and the first
 /// line whose bytes pass the store's end is refused with code 1. A machine with a kernel has the files and the tasks of the lines,
 /// and the first line that is refused is the answer, with the code that `machine_boot` gives it. `WantMemory` comes only where
 /// memory could not be had.

@@ -1,5 +1,5 @@
 // A comparison without a note: `assert_eq!` writes out all that it says at each of its places, and each place is proved. A row of a table
-// is told by what stands beside the value, on both sides.
+// is told by what is beside the value, on both sides.
 use std::fmt::Debug;
 use std::process::Abort;
 

@@ -19,7 +19,7 @@ pub times-append : (a : ℕ) (xs ys : List ℕ) → times a (xs ++ ys) ≡ times
 times-append a [] ys = omega arith
 times-append a (x ∷ xs) ys = omega (arith, times-append a xs ys)
 
--- an address that stands in a list, and one that does not, differ
+-- an address that is in a list, and one that is not, differ
 pub times-differ : (a b : ℕ) (xs : List ℕ) → 0 < times a xs → times b xs ≡ 0 → a ≢ b
 times-differ a b xs some none e = absurd (omega (arith, subst (λ z. 0 < times z xs) e some))
 

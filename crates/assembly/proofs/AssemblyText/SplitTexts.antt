@@ -1,4 +1,4 @@
--- A text is cut at its first byte of a kind, and its parts stand between spaces.
+-- A text is cut at its first byte of a kind, and its parts are between spaces.
 use Rattle.std.proofs.Common.{◌≡◌, ◌≢◌, ◌∙◌, ℕ, zero, suc, ◌+◌, ◌≤◌, eqb, cond, not, ◌==◌, Bool, true, false, List, [], ◌∷◌, ◌++◌, length, take, drop, refl, sym, ap, subst, arith, one-add, length-drop}
 use Rattle.std.specs.List.{position_or_len}
 use Rattle.std.proofs.lemmas.Bool.{eq-eqb, ne_eqb}

@@ -51,7 +51,7 @@ module _ (words : List ℕ) (short : length words < 2 ^ 30) where
   pub hunk_follow : Follow 0 (4 * length words) (hunk_lines words)
   hunk_follow = lines_follow (4 * length words) 0 (omega arith) (omega arith)
 
--- ---- each byte stands in one line
+-- ---- each byte is in one line
 
 before : (b a end : ℕ) (lines : List ListedLine) → b < a → Follow a end lines → length (filter (covers b) lines) ≡ 0
 before b a end [] lt f = refl

@@ -9,7 +9,7 @@ ghost use Rattle.assembly.specs.AssemblyText.LineText.{statement_named};
 ghost use Rattle.assembly.specs.declared.assembly_text.statements.Statement.TheVariants.{Fixed};
 
 /// The name of a row and a number that its form has room for make the row's function byte and the bytes of the number; and
-/// the bytes that they make are decoded to that row and that number, wherever they stand.
+/// the bytes that they make are decoded to that row and that number, wherever they are.
 #[tactic(auto, using(crate::proofs::AssemblyText::InstructionLemmas::made, crate::proofs::AssemblyText::InstructionLemmas::decoded_again))]
 pub fn instruction_law()
     ensures assembled { (byte n : ℕ) (row : Entry) →

@@ -53,7 +53,7 @@ fn is_label(part: &[u8]) -> bool
     }
 }
 
-// Whether these may stand after the first letter of a label.
+// Whether these may be after the first letter of a label.
 fn goes_on_label(others: &[u8]) -> bool
     ensures { result ≡ list_all is_ascii_alphanumeric others.now }
 {
@@ -70,7 +70,7 @@ pub fn has_name_form(part: &[u8]) -> bool
     }
 }
 
-// Whether these may stand after the first letter of a name.
+// Whether these may be after the first letter of a name.
 fn goes_on_name(others: &[u8]) -> bool
     ensures { result ≡ list_all (λ c. is_ascii_alphanumeric c || (c == 36)) others.now }
 {

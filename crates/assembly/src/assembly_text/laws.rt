@@ -17,7 +17,7 @@ pub fn line_law()
 {}
 
 /// What is made of a text is the module that it assembles to, and every such module is made: so a text assembles to at most
-/// one module. Its relocations stand in rising order.
+/// one module. Its relocations are in rising order.
 pub fn assembly_law()
     ensures sound { (text : List ℕ) (m : Module) → assembly_of text ≡ Ok m → Assembles text m }
     ensures complete { (text : List ℕ) (m : Module) → Assembles text m → assembly_of text ≡ Ok m }
@@ -31,7 +31,7 @@ pub fn table_law()
 {}
 
 /// A text is refused exactly at its first bad line, with the lowest code that applies to that line. A line that is bad where
-/// it stands has a code other than 4 and 6; a line whose label is not found, or cannot be reached, has 4 or 6.
+/// it is has a code other than 4 and 6; a line whose label is not found, or cannot be reached, has 4 or 6.
 pub fn refusal_law()
     ensures sound { (text : List ℕ) (n code : ℕ) →
         assembly_of text ≡ Err (refusal n code) → IsRefused text n code }

@@ -13,7 +13,7 @@ pub fn without_comment(line: &[u8]) -> &[u8]
     }
 }
 
-// Where the first semicolon stands.
+// Where the first semicolon is.
 fn semicolon(line: &[u8]) -> Option<usize>
     ensures { result ≡ position (λ c. c == 59) line.now }
 {
@@ -31,14 +31,14 @@ pub fn split_part(line: &[u8]) -> Option<(&[u8], &[u8])>
     Some(line.split_at(end))
 }
 
-// Where the first byte stands that is no space.
+// Where the first byte is that is no space.
 fn first_byte(line: &[u8]) -> Option<usize>
     ensures { result ≡ position (λ c. not (c == 32)) line.now }
 {
     line.iter().position(|c| *c != b' ')
 }
 
-// Where the first space stands, or the line's end where there is none.
+// Where the first space is, or the line's end where there is none.
 #[tactic(auto, using(crate::proofs::AssemblyText::PartLemmas::first_or_end))]
 fn first_end(line: &[u8]) -> usize
     ensures place { result ≡ position_or_len (λ c. c == 32) line.now }
@@ -47,7 +47,7 @@ fn first_end(line: &[u8]) -> usize
     first_space(line).unwrap_or(line.len())
 }
 
-// Where the first space stands.
+// Where the first space is.
 fn first_space(line: &[u8]) -> Option<usize>
     ensures { result ≡ position (λ c. c == 32) line.now }
 {

@@ -1,4 +1,4 @@
-// Where the bytes of a line stand, as offsets in bytes from the hunk's begin.
+// Where the bytes of a line are, as offsets in bytes from the hunk's begin.
 ghost use Rattle.std.specs.Prelude.{◌≡◌, ◌+◌, ◌<◌, ◌≤◌, ◌^◌};
 ghost use Rattle.assembly.specs.AssemblyText.Places.{closing_size, end_of, first_offset, hunk_size, most_words, pairs_of, place_of, rounded_up};
 
@@ -82,6 +82,6 @@ fn closing_size(pairs: u32) -> u32
 pub struct Place {
     /// Its offset in bytes from the hunk's begin.
     pub offset: u32,
-    /// Whether a `RES` stands there, with the label on its line.
+    /// Whether a `RES` is there, with the label on its line.
     pub is_reserve: bool,
 }

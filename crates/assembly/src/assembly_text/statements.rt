@@ -61,7 +61,7 @@ pub enum Boundary {
 /// What a line says besides its label.
 #[derive(Drop)]
 pub enum Statement<'a> {
-    /// Bytes that are the same wherever they stand: none, an instruction, or the data of `DB`, `DH` and `DW`.
+    /// Bytes that are the same wherever they are: none, an instruction, or the data of `DB`, `DH` and `DW`.
     Fixed(LineBytes),
     /// An instruction whose operand byte leads to the label itself.
     Relative { byte: u8, label: Label<'a> },

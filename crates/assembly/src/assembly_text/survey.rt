@@ -1,4 +1,4 @@
-// The lines of a text, surveyed: where each stands and what its label names.
+// The lines of a text, surveyed: where each is and what its label names.
 ghost use Rattle.std.specs.Prelude.{◌≡◌, ◌≤◌, ◌+◌, ◌<◌, ◌^◌, length, IfOk, OnOk};
 ghost use Rattle.module_text.specs.TextReader.Lines.{lines_of};
 ghost use Rattle.module_text.specs.TextReader.Answers.{Gives};

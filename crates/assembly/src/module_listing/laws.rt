@@ -17,7 +17,7 @@ pub fn decoding_law()
         listed code a ≡ record { text = instruction_line row.form a row.name i; length = i.length } }
 {}
 
-/// The lines of a hunk cover it: each begins where the one before it ends, so each byte stands in exactly one of them.
+/// The lines of a hunk cover it: each begins where the one before it ends, so each byte is in exactly one of them.
 pub fn cover_law()
     ensures text { (words : List ℕ) →
         lines_of_words words ≡ flat_map (λ line. line.text) (hunk_lines words) }

@@ -9,7 +9,7 @@ use instruction_set::{Code, Form, Instr, Row, decode, row};
 use word_store::signed;
 
 /// Writes the line of the instruction at byte address a, and answers the number of bytes that it takes, 1 to 5. The line
-/// is the address, the name and the operand, if the form has one; the target of a relative or an indirect form stands
+/// is the address, the name and the operand, if the form has one; the target of a relative or an indirect form is
 /// there as a signed number. Where no instruction can be decoded, the line is the address, `DB` and the byte, which is
 /// one byte. `SinkFault` comes only where the sink's count of faults rose; then a prefix of the line is written.
 pub fn line_at<X: Code, K: Sink>(code: &X, a: u32, out: &mut K) -> Result<u32, SinkFault>

@@ -32,7 +32,7 @@ data QuotesCut (from at : ℕ) (cs : List ℕ) : Type 0 where
       items_in (in_quotes from) at cs ≡ item Quoted from (at + length text) ∷ more → Cut (at + length text + 1) rest more → QuotesCut from at cs
   Unclosed : IsFreeOf 34 cs → items_in (in_quotes from) at cs ≡ item Open from (at + length cs) ∷ [] → QuotesCut from at cs
 
--- the bytes from a place on, wherever they stand
+-- the bytes from a place on, wherever they are
 record Cuts (at : ℕ) (cs : List ℕ) : Type 0 where
   cut : Cut at cs (items_in between at cs)
   word_cut : (from : ℕ) → WordCut from at cs

@@ -167,7 +167,7 @@ fn check_unset(arg: Arg) -> Result<(), Refusal>
     }
 }
 
-// The first unset entry that takes a value which stands alone.
+// The first unset entry that takes a value which is alone.
 fn free_entry(template: &[u8], values: &[Arg; 8]) -> Option<usize>
     ensures value { result ≡ position is_free (zip (entries template.now) values.now) }
     ensures small { IfSome result (λ k. k < 8) }

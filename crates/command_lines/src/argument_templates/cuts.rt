@@ -2,7 +2,7 @@
 ghost use Rattle.std.specs.Prelude.{◌≡◌, ◌==◌, ◌≤◌, length, not};
 ghost use Rattle.std.specs.List.{position, position_or_len};
 
-/// How many bytes stand before the first byte that is this one, all of them where none is.
+/// How many bytes are before the first byte that is this one, all of them where none is.
 #[tactic(auto, using(crate::proofs::ArgumentTemplates::Chains::places))]
 pub fn length_before(byte: u8, text: &[u8]) -> usize
     ensures value { result ≡ position_or_len (λ c. c == byte) text.now }
@@ -11,7 +11,7 @@ pub fn length_before(byte: u8, text: &[u8]) -> usize
     place_of(byte, text).unwrap_or(text.len())
 }
 
-/// How many spaces stand before the first other byte.
+/// How many spaces are before the first other byte.
 #[tactic(auto, using(crate::proofs::ArgumentTemplates::Chains::places))]
 pub fn length_of_spaces(text: &[u8]) -> usize
     ensures value { result ≡ position_or_len (λ c. not (c == 32)) text.now }

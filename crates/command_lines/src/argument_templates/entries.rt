@@ -83,7 +83,7 @@ fn are_entries(template: &[u8]) -> bool
         .all(|entry| is_entry(template, entry))
 }
 
-// Whether this is an entry, none of whose names stands anywhere else in the template.
+// Whether this is an entry, none of whose names is anywhere else in the template.
 fn is_entry(template: &[u8], entry: &[u8]) -> bool
     ensures { result ≡ is_entry (entries template.now) entry.now }
 {
@@ -163,14 +163,14 @@ fn has_name(word: &[u8], entry: &[u8]) -> bool
         .any(|name| is_same(name, word))
 }
 
-// Whether a name stands once among its entry's, and in no other entry.
+// Whether a name is once among its entry's, and in no other entry.
 fn is_once(template: &[u8], entry: &[u8], name: &[u8]) -> bool
     ensures { result ≡ is_once (entries template.now) entry.now name.now }
 {
     times_in_entry(entry, name) == 1 && entries_with(template, name) == 1
 }
 
-// How often a name stands in an entry.
+// How often a name is in an entry.
 fn times_in_entry(entry: &[u8], name: &[u8]) -> usize
     ensures { result ≡ count_by (λ other. str_eq_ignore_ascii_case other name.now) (names entry.now) }
 {

@@ -7,7 +7,7 @@ ghost use Rattle.command_lines.specs.ArgumentTemplates.Answer.{is_open};
 
 use crate::argument_templates::cuts::{length_before, length_of_spaces};
 
-/// How an item stands in its line.
+/// How an item is in its line.
 #[derive(Clone, Copy)]
 pub enum Form {
     /// Bytes up to a space or the line's end.
@@ -21,7 +21,7 @@ pub enum Form {
 /// An item, and the places in the line where its bytes begin and end.
 #[derive(Clone, Copy)]
 pub struct Item {
-    /// How its bytes stand there.
+    /// How its bytes are there.
     pub form: Form,
     /// The place of its first byte.
     pub from: usize,

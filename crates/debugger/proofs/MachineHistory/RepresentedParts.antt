@@ -1,4 +1,4 @@
--- The parts of a machine that has gone back stand for the state that it has gone back to.
+-- The parts of a machine that has gone back represent the state that it has gone back to.
 use Rattle.std.proofs.Common.{◌≡◌, ℕ, Bool, Option, Some, List, length, refl, sym, ap, subst, ◌∙◌, arith}
 use Rattle.circular_buffer.specs.Buffer.{Buffer}
 use Rattle.bare_machine.specs.declared.parts.BareParts.{BareParts}

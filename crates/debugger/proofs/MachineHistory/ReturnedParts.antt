@@ -118,7 +118,7 @@ module _ (h : Inside) (k : IsHistory h) (n : ℕ) (some : 0 < n) (few : n ≤ le
 
 -- ---- the whole
 
--- the history that has gone back, and the state for which the machine's parts stand then
+-- the history that has gone back, and the state that the machine's parts represent then
 pub record IsReturned (h new : Inside) (parts : Parts) (n : ℕ) (now : State) : Type 0 where
   pub history : IsHistory new
   pub past : (view_of new).past ≡ past_back n (view_of h).past

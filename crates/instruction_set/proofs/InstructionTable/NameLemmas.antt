@@ -1,4 +1,4 @@
--- Each name stands once, and is found.
+-- Each name is once, and is found.
 use Rattle.std.proofs.Common.{◌≡◌, ◌≢◌, ◌∙◌, sym, ap, ℕ, Bool, true, false, cond, ◌==◌, inl, inr, Some, None, Option, List, [], ◌∷◌, refl, arith}
 use Rattle.std.specs.List.{find, range_with_len}
 use Rattle.std.specs.Option.{option_map, option_map_or}

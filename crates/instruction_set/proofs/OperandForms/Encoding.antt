@@ -18,7 +18,7 @@ use Rattle.instruction_set.specs.OperandForms.BytesAt.{HasBytesAt, with_number, 
 pub add_add : (a k : ℕ) → add (add a k) 1 ≡ add a (k + 1)
 add_add a k = mod-add-mod (a + k) (2 ^ 32) 1 ∙ ap (λ n. n % 2 ^ 32) (omega arith)
 
--- bytes that stand in the code are read
+-- bytes that are in the code are read
 half_of_bytes : (code : ℕ → Option ℕ) (a n : ℕ) → n < 2 ^ 16 → HasBytesAt code a (to_le_bytes w16 n) → half_at code a ≡ Ok n
 half_of_bytes code a n lt s = rw (s.0, s.1.0) (ap Ok (from_le_bytes-to_le_bytes_2 n lt))
 

@@ -1,4 +1,4 @@
--- What is decoded with a number or a relative target stands in the code.
+-- What is decoded with a number or a relative target is in the code.
 use Rattle.std.proofs.Common.{◌≡◌, ◌∙◌, ap, sym, subst, ℕ, ◌+◌, ◌*◌, ◌/◌, ◌%◌, ◌^◌, ◌<◌, ◌≤◌, Some, Option, List, [], ◌∷◌, Result, Ok, refl, arith}
 use Rattle.std.specs.Int.{w16, w32, from_le_bytes}
 use Rattle.std.specs.Option.{ok_or}

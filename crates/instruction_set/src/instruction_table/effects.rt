@@ -125,7 +125,7 @@ pub enum Effect {
     Fhop,
     /// Jumps by the label that has number A.
     Swl,
-    /// Jumps by the label that stands with key A.
+    /// Jumps by the label that is with key A.
     Swb,
     /// Nothing.
     Nop,

@@ -1,6 +1,6 @@
-// Where an instruction's operand stands.
+// Where an instruction's operand is.
 
-/// Where the operand stands. Operands follow the function byte directly, the lowest byte first.
+/// Where the operand is. Operands follow the function byte directly, the lowest byte first.
 #[derive(Clone, Copy)]
 pub enum Form {
     /// In the name: this number, or 0 where the name has none.

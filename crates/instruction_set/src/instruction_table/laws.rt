@@ -12,7 +12,7 @@ pub fn empty_law()
     ensures { (byte : ℕ) → byte < 2 ^ 8 → (IsNone (entry byte) ↔ Contains empty_bytes byte) }
 {}
 
-/// Each name stands once, so the byte that is found by the name of a row is the byte of that row.
+/// Each name is once, so the byte that is found by the name of a row is the byte of that row.
 #[tactic(auto, using(crate::proofs::InstructionTable::NameLemmas::once, crate::proofs::InstructionTable::NameLemmas::byte_named_at, crate::proofs::InstructionTable::NameLemmas::byte_named_has))]
 pub fn name_law()
     ensures once { (a b : ℕ) (name : List ℕ) →

@@ -1,4 +1,4 @@
-// Where code stands.
+// Where code is.
 ghost use Rattle.std.specs.Prelude.{◌≡◌, ℕ, Option};
 ghost use Rattle.word_store.specs.Bytes.{byte_at};
 

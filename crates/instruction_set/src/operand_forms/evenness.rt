@@ -12,7 +12,7 @@ pub fn even_below(a: u32) -> u32
     a / 2 * 2
 }
 
-/// The address, or the one above it where it is odd; above the last address stands 0.
+/// The address, or the one above it where it is odd; above the last address is 0.
 #[inline]
 pub fn even_above(a: u32) -> u32
     ensures { result ≡ even_above a }

@@ -16,7 +16,7 @@ pub struct Instr {
     pub target: u32,
 }
 
-/// Why no instruction stands at a place. Each carries a byte address.
+/// Why no instruction is at a place. Each carries a byte address.
 #[derive(Clone, Copy)]
 pub enum DecodeEnd {
     /// The function byte, or this byte of the operand, is outside.

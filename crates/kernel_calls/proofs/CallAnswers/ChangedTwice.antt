@@ -9,7 +9,7 @@ use Rattle.kernel_model.specs.KernelRecord.ChangedStore.{IsChanged}
 use Rattle.kernel_model.specs.KernelRecord.Lists.{Lists}
 use Rattle.kernel_model.specs.KernelRecord.Owned.{owned}
 
--- what stands at an address after a write depends on what stood there
+-- what is at an address after a write depends on what stood there
 set-at : (s t : List ℕ) (b w a : ℕ) → length s ≡ length t → get_or s a 0 ≡ get_or t a 0 → get_or (set s b w) a 0 ≡ get_or (set t b w) a 0
 set-at s t b w a long same =
     elim (eqb a b) as (λ c. eqb a b ≡ c → get_or (set s b w) a 0 ≡ get_or (set t b w) a 0) [

@@ -92,7 +92,7 @@ find-numbered id (z ∷ zs) t back e apart =
     there [] = omega (arith, hit-same id t.id (sym e))
     there (w ∷ ws) = omega (arith, there ws)
 
--- the task that was found stands where the table leads to
+-- the task that was found is where the table leads to
 pub found-address : (l : Lists) (id a : ℕ) → IsApart (map task_id l.tasks) → TaskAt l.tasks id a → address_of_task l id ≡ a
 found-address l id a apart t =
     ap (λ ts. address_with task_address task_id ts id) t.is

@@ -4,7 +4,7 @@ use Rattle.kernel_model.specs.KernelRecord.HoldsLists.{HoldsLists}
 use Rattle.kernel_model.specs.KernelRecord.Lists.{Lists, address_of_task}
 use Rattle.kernel_model.specs.KernelRecord.Owned.{owned}
 
--- where the running task stands
+-- where the running task is
 pub running-word : (s : List ℕ) (l : Lists) → HoldsLists s l → get_or s 102 0 ≡ address_of_task l l.running
 unfolding owned
 running-word s l h = h.holds.1.0

@@ -11,7 +11,7 @@ use Rattle.kernel_calls.proofs.CallAnswers.FoundTask.{TaskAt}
 use Rattle.kernel_calls.proofs.CallAnswers.Refusals.{guest-at}
 use Rattle.kernel_calls.proofs.CallAnswers.RootTold.{running-word}
 
--- a task that is there stands where the table leads to
+-- a task that is there is where the table leads to
 pub there-at : (id : ℕ) (ts : List Task) → has_task id ts ≡ true → TaskAt ts id (address_with task_address task_id ts id)
 there-at id [] e = cc
 there-at id (t ∷ ts) e = on (eqb t.id id) refl e (there-at id ts)

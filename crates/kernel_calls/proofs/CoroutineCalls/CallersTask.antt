@@ -33,7 +33,7 @@ use Rattle.kernel_calls.specs.CallAnswers.Tasks.{no_coroutines}
 use Rattle.kernel_calls.proofs.CallAnswers.GuestTask.{guest-changed}
 use Rattle.kernel_calls.specs.CoroutineCalls.CallersCoroutines.{coroutines_of_caller, with_callers, with_changed}
 
--- what stands at these addresses has the same owners
+-- what is at these addresses has the same owners
 owners-pairs_in : (s : List ℕ) (new : Pairs) (a : ℕ) → owners a (pairs_in s new) ≡ owners a new
 owners-pairs_in s [] a = refl
 owners-pairs_in s (e ∷ es) a = omega (arith, owners-pairs_in s es a)

@@ -40,7 +40,7 @@ use Rattle.kernel_calls.proofs.CoroutineCalls.CallersTask.{AreRewritten, callers
 use Rattle.kernel_calls.proofs.CoroutineCalls.CodedAnswers.{idle-coded, resume-coded, wait-coded, wait-passed}
 use Rattle.kernel_calls.proofs.CoroutineCalls.SavedFrames.{first-one, regs-read}
 
--- ---- coroutines with a frame saved stand as before
+-- ---- coroutines with a frame saved are as before
 
 addresses-framed : (d p pc : ℕ) (xs : List Coroutine) → map address_of (map (with_frame d p pc) xs) ≡ map address_of xs
 addresses-framed d p pc [] = refl

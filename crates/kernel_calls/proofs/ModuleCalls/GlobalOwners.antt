@@ -42,7 +42,7 @@ use Rattle.kernel_model.proofs.KernelRecord.TaskCounts.{further_count, owners-ta
 use Rattle.kernel_model.proofs.KernelRecord.TaskPlaces.{has-each, last-resident}
 use Rattle.kernel_model.proofs.KernelRecord.ModuleMoves.{owners-module}
 
--- linked things of which none owns an address do not stand there
+-- linked things of which none owns an address are not there
 differ : {X : Type 0} (v : ℕ) (address : X → ℕ) (words : X → ℕ → Pairs) → ((x : X) (n : ℕ) → 0 < owners (address x) (words x n)) → (xs : List X) (end : ℕ) → owners v (linked_words address words xs end) ≡ 0
     → AllByRecursion (λ x. (n : ℕ) → owners v (words x n) ≡ 0) xs → AllByRecursion (λ x. address x ≢ v) xs
 differ v address words own [] end none all = tt
@@ -83,7 +83,7 @@ module _ (l : Lists) (v : AreValid l) (front : List Task) (t : Task) (back : Lis
     pub modules : modules_at at ≡ 0
     pub coroutines : times at (words_of coroutine_size (coroutine_addresses t)) ≡ 0
 
-  -- nothing else stands where the task does
+  -- nothing else is where the task is
   alone : IsAlone
   alone =
       let r = by _ _ _ _ _ _ _ _ _ _ _ _ _ _ _ _ (owners-nodes at l) (v.owns.apart at) (tasks-split at) (owners-task_by at l.version t 0) (times-within at at 23 (omega arith) (omega arith)) in

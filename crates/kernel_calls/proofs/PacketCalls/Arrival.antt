@@ -99,7 +99,7 @@ module _ (s : List ℕ) (base : Lists) (at : Place) (p : QueuedPacket) (front ba
   inside : (a : ℕ) → 0 < owners a (owned m) → a < length s
   inside a some = omega (arith, v.owns.inside a some, size)
 
-  -- while words of the packet are set, the queue and the state of its task stand as they were
+  -- while words of the packet are set, the queue and the state of its task are as they were
   pub held : (ws : Pairs) → AreOfPacket p.address ws → HeldQueue (written ws s) hd (front ++ back)
   held ws own =
       record {

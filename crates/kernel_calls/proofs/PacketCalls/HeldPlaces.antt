@@ -55,7 +55,7 @@ module _ (s : List ℕ) (l : Lists) (at : Place) (h : HoldsLists s l) (has-place
   pub has-at : (p : ℕ) → has p (queue_at s (head_of (queue_for l at))) ≡ is_on_queue p (queue_of at l)
   has-at p = ap (has p) queue-at ∙ has-address p (queue_of at l)
 
--- a packet that is on a queue stands between two parts of it
+-- a packet that is on a queue is between two parts of it
 pub record IsQueuedBetween (p : ℕ) (ps : List QueuedPacket) : Type 0 where
   pub front : List QueuedPacket
   pub packet : QueuedPacket

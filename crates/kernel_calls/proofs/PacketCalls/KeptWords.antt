@@ -14,7 +14,7 @@ use Rattle.kernel_model.specs.KernelRecord.Lists.{Lists}
 use Rattle.kernel_model.specs.KernelRecord.Owned.{owned}
 use Rattle.kernel_model.specs.KernelRecord.ValidLists.{AreValid}
 
--- of the new words some are kept as they stand, and the others are written
+-- of the new words some are kept as they are, and the others are written
 pub exchange-kept : (s t : List ℕ) (l m : Lists) (old new kept all : Pairs) → Holds s (owned l) → AreValid m → length s ≡ m.size → Exchange (owned l) (owned m) old new
     → Splits new kept all → Holds s kept → t ≡ written all s → IsChanged s t m []
 exchange-kept s t l m old new kept all holds valid size x split held is =

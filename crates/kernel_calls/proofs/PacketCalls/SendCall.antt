@@ -79,7 +79,7 @@ module _ (s : List ℕ) (tells : List ℕ → Type 0) (room : ℕ) (l : Lists) (
     sent : Sent s l (place_of number) p l.running
     sent = sent-packet s l p l.running k.lists tests.lodged tests.plain (tick-told s l k.lists) (place_of number) names.place (caller-sends l (place_of number) c)
 
-    -- the sender is the number that stands in the block of the task that calls
+    -- the sender is the number that is in the block of the task that calls
     from : get_or s (t + 1) 0 ≡ l.running
     from = caller-number s l l.running t k.lists g
 

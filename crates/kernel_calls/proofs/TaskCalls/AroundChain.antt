@@ -19,7 +19,7 @@ use Rattle.kernel_model.specs.KernelRecord.Root.{root_words}
 use Rattle.kernel_model.specs.KernelRecord.Task.{Task, task_address, task_id, task_words}
 use Rattle.kernel_model.specs.KernelRecord.Versions.{highest_id_of}
 
--- the table leads to a task by its number, wherever it stands in the chain
+-- the table leads to a task by its number, wherever it is in the chain
 pub address_with-out : (front : List Task) (t : Task) (back : List Task) (i : ℕ) → times t.id (map task_id front) ≡ 0
     → address_with task_address task_id (front ++ t ∷ back) i ≡ cond (eqb t.id i) t.address (address_with task_address task_id (front ++ back) i)
 address_with-out [] t back i none = refl

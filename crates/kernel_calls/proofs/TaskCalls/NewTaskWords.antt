@@ -1,4 +1,4 @@
--- The words of a new task stand in its block before it is in the chain.
+-- The words of a new task are in its block before it is in the chain.
 use Rattle.std.proofs.Common.{◌≡◌, ℕ, ◌+◌, ◌-◌, ◌<◌, List, [], ◌++◌, drop, get_or, length, cond, true, sym, ap, ◌∙◌, subst, arith}
 use Rattle.std.proofs.lemmas.List.{length-append}
 use Rattle.kernel_lists.specs.OwnedWords.Owned.{Holds, row_from}

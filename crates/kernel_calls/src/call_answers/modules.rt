@@ -8,7 +8,7 @@ ghost use Rattle.kernel_lists.specs.TaskBlock.RootWords.{first_module};
 use kernel_lists::modules;
 use word_store::Store;
 
-/// Whether a module stands at address m.
+/// Whether a module is at address m.
 pub fn is_module(store: &Store, m: u32) -> bool
     requires { CanWalk store.now module_link first_module }
     ensures { result ≡ has m (modules_in store.now) }

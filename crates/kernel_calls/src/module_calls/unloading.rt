@@ -34,7 +34,7 @@ pub fn unload_module<Q: KindKeeper>(store: &mut Store, kinds: &mut Q, m: u32) ->
     Ok(())
 }
 
-// Refused where no module stands at m, or a task has it.
+// Refused where no module is at m, or a task has it.
 fn check_unused(store: &Store, m: u32) -> Result<(), u32>
     requires { (l : Lists) × HoldsLists store.now l }
     ensures { (l : Lists) → HoldsLists store.now l

@@ -21,7 +21,7 @@ use kernel_model::{KindKeeper, are_unowned};
 use word_store::{Store, word, word_at};
 
 /// Sends the packet at p to the task or the device that its word 1 names; this word has then the number of the task that
-/// calls. At the clock (-1) it stands by its due tick, which is the tick plus the packet's word 5, but not above 2^32 - 1, and
+/// calls. At the clock (-1) its place is by its due tick, which is the tick plus the packet's word 5, but not above 2^32 - 1, and
 /// which is then in its word 4; word 5 is read before any change, and is 0 where the store ends before it. In every other
 /// queue it comes to the end. Refused where the words p to p + 4 are not all data of one used block (5), where word p is not
 /// -1 (3), where one of the five words is the kernel's (5), and where word 1 names neither a task that is there nor a device

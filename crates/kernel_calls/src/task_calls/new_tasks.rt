@@ -65,7 +65,7 @@ fn last_word(store: &Store, u: u32) -> Result<u32, u32>
     }
 }
 
-// Clears the words 0 to `last` of what stands at address a.
+// Clears the words 0 to `last` of what is at address a.
 fn clear_words(store: &mut Store, a: u32, last: u32)
     ensures { store.new ≡ with_words store.old a (replicate (last + 1) 0) }
 {

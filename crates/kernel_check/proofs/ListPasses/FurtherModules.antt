@@ -17,7 +17,7 @@ use Rattle.kernel_check.proofs.ListPasses.GuestWords.{filter-some, head-is}
 use Rattle.kernel_check.proofs.ListPasses.HeadWords.{first-some, skip-first}
 use Rattle.kernel_model.proofs.KernelRecord.RootCounts.{length-filled}
 
--- ---- a row is what stands there
+-- ---- a row is what is there
 
 row-is : (s : List ℕ) (t i : ℕ) (xs : List ℕ) → t + i + length xs ≤ length s → Holds s (row_from t i xs) → xs ≡ slice_range s (t + i) (t + i + length xs)
 row-is s t i [] fits h = sym ((let e : t + i + 0 ≡ t + i = omega arith in ap (slice_range s (t + i)) e ∙ range_none s (t + i)))

@@ -35,7 +35,7 @@ module _ (s : List ℕ) (bs all : List ℕ) (m : ℕ) (rest : List ℕ) (g : IsG
 pub gone : (s : List ℕ) (bs all : List ℕ) → IsGoing s bs all → bs ≡ [] → AllByRecursion (IsInBlock s) all
 gone s bs all g none = g.left (subst (AllByRecursion (IsInBlock s)) (sym none) tt)
 
--- what stands at the addresses is what was read off
+-- what is at the addresses is what was read off
 to-lists : (s : List ℕ) (ms : List ℕ) → AllByRecursion (IsInBlock s) ms → AllByRecursion (λ x. HasBlock (blocks_in s) x.address (last_module_word x)) (map (module_in s) ms)
 to-lists s [] all = tt
 to-lists s (m ∷ ms) all = (all.0, to-lists s ms all.1)

@@ -47,7 +47,7 @@ highest-one s w read one = sym (highest-is s ∙ ap (λ b. cond b 63 20) (ne_eqb
 abbrev LeadFrom : List ℕ → (ℕ → ℕ) → ℕ → ℕ → Type 0
 LeadFrom s to i n = (k : ℕ) → k < n → get_or s (120 + (i + k)) 0 ≡ to (i + k)
 
--- the entries from i on stand
+-- the entries from i on are there
 pub holds-entries : (s : List ℕ) (to : ℕ → ℕ) (i n : ℕ) → LeadFrom s to i n ↔ Holds s (entries to i n)
 holds-entries s to i zero = (λ h. tt, λ h k low. absurd (omega (arith, low)))
 holds-entries s to i (suc n) = (there (holds-entries s to (i + 1) n).0, back (holds-entries s to (i + 1) n).1)

@@ -11,7 +11,7 @@ ghost use Rattle.kernel_check.specs.ListPasses.Frames.{HasFrame, HasParent};
 use kernel_lists::{TcbField, coroutine_list, field};
 use word_store::{Store, word_at};
 
-/// Whether the words 17 to 20 of the task block at t, and the words of its coroutines, stand, where these have their parents.
+/// Whether the words 17 to 20 of the task block at t, and the words of its coroutines, are right, where these have their parents.
 pub(crate) fn holds_frames(store: &Store, t: u32) -> bool
     requires can { CanPass store.now t }
     requires parents { AllByRecursion (HasParent store.now t) (coroutines_in store.now t) }
@@ -29,7 +29,7 @@ pub(crate) fn holds_frames(store: &Store, t: u32) -> bool
     true
 }
 
-// Whether the words of the coroutine at c stand, but for its parent.
+// Whether the words of the coroutine at c are right, but for its parent.
 fn has_frame(store: &Store, c: u32) -> bool
     ensures { IsTrue result ↔ HasFrame store.now c }
 {

@@ -18,7 +18,7 @@ use kernel_lists::{FIRST_GUEST, TcbField, field, head_words, tasks};
 use kernel_model::numbers::{GLOBAL_WORDS, RESIDENT_WORDS};
 use word_store::Store;
 
-/// Whether the words of tasks stand that follow from others: the bit of the queue, the addresses of stack and globals, the zeros
+/// Whether the words of tasks that follow from others are right: the bit of the queue, the addresses of stack and globals, the zeros
 /// after a guest's modules, and the fixed words of coroutines.
 pub fn holds_words_of_tasks(store: &Store) -> bool
     requires claimed { IsClaimed store.now }
@@ -49,7 +49,7 @@ fn holds_task_words(store: &Store, t: u32) -> bool
     holds_frames(store, t)
 }
 
-// Whether the words 4 to 16 of the task block at t stand: the bit of the queue, the addresses of stack and globals, and the first
+// Whether the words 4 to 16 of the task block at t are right: the bit of the queue, the addresses of stack and globals, and the first
 // module.
 fn holds_state_words(store: &Store, t: u32) -> bool
     requires can { CanPass store.now t }
@@ -123,7 +123,7 @@ fn is_dense_from_first(store: &Store, t: u32) -> bool
     !has_word(further)
 }
 
-// Whether the words of the task block at t from 21 on stand: a guest's modules in order, and then zeros.
+// Whether the words of the task block at t from 21 on are right: a guest's modules in order, and then zeros.
 fn holds_further_words(store: &Store, t: u32) -> bool
     requires can { CanPass store.now t }
     requires first { slice_index store.now (t + 10)

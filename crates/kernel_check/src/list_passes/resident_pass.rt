@@ -55,7 +55,7 @@ pub(crate) fn has_task(store: &Store, id: u32) -> bool
     store_claims::has_task(store, id)
 }
 
-/// Whether the words of the residents that are no task's stand: those of the key packet and of the fault packet, where they are on
+/// Whether the words of the residents that are no task's are right: those of the key packet and of the fault packet, where they are on
 /// no queue, and the arguments of the key packet.
 pub fn holds_resident_words(store: &Store) -> bool
     requires claimed { IsClaimed store.now }
@@ -73,7 +73,7 @@ pub fn holds_resident_words(store: &Store) -> bool
     holds_fault_packet(store)
 }
 
-// Whether the words of the key packet stand, where it is on no queue.
+// Whether the words of the key packet are right, where it is on no queue.
 fn holds_key_packet(store: &Store) -> bool
     requires residents { (lists_in store.now).residents ≡ true }
     ensures { IsTrue result ↔ Holds store.now (key_words (lists_in store.now).key) }
@@ -93,7 +93,7 @@ fn has_key_words(store: &Store) -> bool
         && word_at(store, KEY_PACKET, RES2) == 0
 }
 
-// Whether its arguments stand.
+// Whether its arguments are right.
 fn holds_key_arguments(store: &Store) -> bool
     ensures { IsTrue result ↔ Holds store.now key_arguments }
 {
@@ -102,7 +102,7 @@ fn holds_key_arguments(store: &Store) -> bool
         && word_at(store, KEY_PACKET, THIRD) == 0
 }
 
-// Whether the words of the fault packet stand, where it is there and on no queue.
+// Whether the words of the fault packet are right, where it is there and on no queue.
 fn holds_fault_packet(store: &Store) -> bool
     requires claimed { IsClaimed store.now }
     requires residents { (lists_in store.now).residents ≡ true }

@@ -7,7 +7,7 @@ ghost use Rattle.kernel_check.specs.ListPasses.RootRules.{HasRootWords, NumbersM
 use kernel_lists::{RootField, root};
 use word_store::{Store, word};
 
-/// Whether the numbers of the root are those that a session may name, and its fixed words stand. It looks at some 80 words.
+/// Whether the numbers of the root are those that a session may name, and its fixed words are right. It looks at some 80 words.
 pub fn is_valid_root(store: &Store) -> bool
     ensures { IsTrue result ↔ IsValidRoot store.now }
 {
@@ -36,7 +36,7 @@ fn numbers_may_be(store: &Store) -> bool
     size <= 4_194_304
 }
 
-// Whether the fixed words of the root stand, in a store whose numbers may be.
+// Whether the fixed words of the root are right, in a store whose numbers may be.
 fn has_root_words(store: &Store) -> bool
     requires { NumbersMayBe store.now }
     ensures { IsTrue result ↔ HasRootWords store.now }

@@ -63,7 +63,7 @@ same-list s v t h c =
         subst (λ z. get_or v z 0 ≡ get_or s z 0) (sym e)
         (known-word s v t k 2 h c known (omega arith) (λ e. absurd (omega (arith, e))) (λ e. absurd (omega (arith, e))) (λ e. absurd (omega (arith, e))))
 
--- after a call the coroutines stand, with the active ones that it leaves
+-- after a call the coroutines are there, with the active ones that it leaves
 pub again : (s v : List ℕ) (t : ℕ) (act : List ℕ) → HasCoroutines s t → IsCall s v t → LeadsOut v t 0 (t + 18) act → AllByRecursion (λ c. has c (coroutines_in s t) ≡ true) act → IsApart act
     → ((c : ℕ) → is_known s t c ≡ true → has c act ≡ false → get_or v (c + 1) 0 ≡ 0) → Built v t (coroutines_in s t) act
 again s v t act h c out members distinct idle =

@@ -1,4 +1,4 @@
--- The coroutines of a task stand, by a list of them and a list of the active ones.
+-- The coroutines of a task, by a list of them and a list of the active ones.
 use Rattle.std.proofs.Common.{◌≡◌, ◌≢◌, inl, ℕ, ◌+◌, ◌<◌, List, [], ◌∷◌, ◌++◌, length, true, false, refl, sym, ap, ◌∙◌, subst, arith}
 use Rattle.std.specs.List.{AllByRecursion, range_with_len}
 use Rattle.word_store.specs.Count.{IsApart, words_of}

@@ -66,7 +66,7 @@ pub exchange-same : (L M A B C D : Pairs) → Exchange L M A B → AreSame A C �
 exchange-same L M A B C D x a b =
     exchange-back M L D C (exchange-as M L D A C (exchange-back L M A D (exchange-as L M A B D x (λ n. sym (b.count n)) b.there b.back)) (λ n. sym (a.count n)) a.there a.back)
 
--- words that stand in a store
+-- words that are in a store
 pairs_in-held : (s : List ℕ) (A : Pairs) → Holds s A → pairs_in s A ≡ A
 pairs_in-held s [] h = refl
 pairs_in-held s (e ∷ es) h = ap (λ w. (e.0, w) ∷ pairs_in s es) h.0 ∙ ap (λ z. (e.0, e.1) ∷ z) (pairs_in-held s es h.1)

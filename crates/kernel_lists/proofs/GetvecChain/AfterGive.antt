@@ -18,7 +18,7 @@ given-none v (b ∷ bs) e = on (is_used_at v b) (λ k. given-none v bs k) e
     on true later e = cc
     on false later e = ap (λ z. b ∷ z) (later e)
 
--- the blocks stand where 1 was added to the size word
+-- the blocks are where 1 was added to the size word
 pub given-Tiles : (s : List ℕ) (at : ℕ) (bs : List Block) (v : ℕ) (c : Block) → Tiles s at bs → used_at v bs ≡ Some c → Tiles (set s c.start (c.size + 1)) at (given v bs)
 given-Tiles s at [] v c t e = cc
 given-Tiles s at (b ∷ bs) v c t e = on (is_used_at v b) refl (λ k. given-Tiles s (block_end b) bs v c t.2 k) e

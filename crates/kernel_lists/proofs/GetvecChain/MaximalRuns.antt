@@ -17,7 +17,7 @@ run_size-front start [] after end all f = omega (arith, f)
 run_size-front start (b ∷ bs) after end all f =
     omega (arith, run_size-free b (bs ++ after) all.0, run_size-front (block_end b) bs after end all.1 f.3, f.0, Follow-order (block_end b) bs end f.3)
 
--- blocks that stand behind others begin behind them
+-- blocks that are behind others begin behind them
 start-behind : (s : List ℕ) (at : ℕ) (before free after : List Block) (start end : ℕ) → Tiles s at (before ++ (free ++ after)) → Follow start free end → start < end → at ≤ start
 start-behind s at [] [] after start end t f some = absurd (omega (arith, f, some))
 start-behind s at [] (b ∷ bs) after start end t f some = omega (arith, t.0, f.0)

@@ -50,7 +50,7 @@ open-small s n run b bs some t used lt =
     run_or-small n run.start (run.end + run_size (b ∷ bs)) (first_run n (after_run (b ∷ bs))) (omega (arith, lt, run_size-used b bs used))
     ∙ ap (first_run n) (after_run-used b bs used) ∙ first_run-used n b bs used ∙ open-none s n (block_end b) bs some t
 
--- where the walk stands
+-- where the walk is
 pub record IsOpen (s : List ℕ) (n : ℕ) (all : Option Run) (run : Run) (bs : List Block) : Type 0 where
   pub tiles : Tiles s run.end bs
   pub order : run.start ≤ run.end
@@ -64,7 +64,7 @@ opened s n at bs items some t is =
 abbrev pub IsOpenFrom : List ℕ → ℕ → Option Run → ℕ → List Block → Type 0
 IsOpenFrom s n all start bs = (end : ℕ) × IsOpen s n all (record { start = start; end = end }) bs
 
--- the block that the walk stands at
+-- the block that the walk is at
 pub record AtBlock (s : List ℕ) (n : ℕ) (all : Option Run) (run : Run) (b : Block) (rest : List Block) : Type 0 where
   pub start : b.start ≡ run.end
   pub rest_tiles : Tiles s (block_end b) rest

@@ -12,7 +12,7 @@ use Rattle.kernel_lists.proofs.GetvecChain.Tilings.{IsTiledFrom-by, Tiles-inside
 pub need-even : (u : ℕ) → (2 ≤ need u) × (need u % 2 ≡ 0)
 need-even u = (omega arith, omega arith)
 
--- the run at the front of the blocks: those after it stand from its end on, and its size is even
+-- the run at the front of the blocks: those after it are from its end on, and its size is even
 pub record FrontRun (s : List ℕ) (at : ℕ) (bs : List Block) : Type 0 where
   pub after : Tiles s (at + run_size bs) (after_run bs)
   pub even : run_size bs % 2 ≡ 0
@@ -110,7 +110,7 @@ run_here n b bs free enough = ap (λ f. cond (f && leb n (run_size (b ∷ bs))) 
     test : (r : ℕ) → n ≤ r → leb n r ≡ true
     test r le = grind (arith, nat_tests)
 
--- the blocks from the run on stand there
+-- the blocks from the run on are there
 pub run-tiled : (s : List ℕ) (n at : ℕ) (bs : List Block) (run : Run) → Tiles s at bs → first_run n bs ≡ Some run → IsTiledFrom s run.start
 run-tiled s n at [] run t e = cc
 run-tiled s n at (b ∷ bs) run t e = on (begins_run n (b ∷ bs)) (λ k. run-tiled s n (block_end b) bs run t.2 k) e

@@ -23,7 +23,7 @@ with_size_words-outside s at (b ∷ bs) end a f out =
     with_size_words-outside (set s b.start (size_word b)) (block_end b) bs end a f.3 (λ low. out (omega (arith, low, f.0)))
     ∙ get_or-set_other s b.start a (size_word b) 0 (λ e. absurd (omega (arith, e, f.0, f.1, order, out (omega (arith, e, f.0)))))
 
--- the blocks then stand, and so do those after them
+-- the blocks are there then, and so are those after them
 pub with_size_words-Tiles : (s : List ℕ) (at : ℕ) (bs : List Block) (end : ℕ) (rest : List Block) → Follow at bs end → Tiles s end rest → Tiles (with_size_words s bs) at (bs ++ rest)
 with_size_words-Tiles s at [] end rest f t = subst (λ z. Tiles s z rest) (sym f) t
 with_size_words-Tiles s at (b ∷ bs) end rest f t =

@@ -1,4 +1,4 @@
--- A block is taken: what stands then, and what stays.
+-- A block is taken: what is there then, and what stays.
 use Rattle.std.proofs.Common.{◌≡◌, ◌≢◌, ◌⊎◌, inl, inr, ℕ, zero, suc, ◌+◌, ◌-◌, ◌%◌, ◌<◌, ◌≤◌, ◌&&◌, List, [], ◌∷◌, ◌++◌, get_or, set, eqb, cond, not, Bool, true, false, refl, sym, ap, ◌∙◌, subst, arith, Some, None, Option, get_or-set_other}
 use Rattle.std.proofs.lemmas.Bool.Decides.{nat_tests}
 use Rattle.kernel_lists.specs.declared.getvec_chain.pieces.Block.{Block}
@@ -25,7 +25,7 @@ taken_store-unwritten s run n a first second = by (run.end - (run.start + n))
     by zero = get_or-set_other s run.start a n 0 first
     by (suc m) = get_or-set_other (set s run.start n) (run.start + n) a (suc m + 1) 0 second ∙ get_or-set_other s run.start a n 0 first
 
--- the blocks after the take stand
+-- the blocks after the take are there
 pub taken-Tiles : (s : List ℕ) (n at : ℕ) (bs : List Block) (run : Run) → 2 ≤ n → n % 2 ≡ 0 → Tiles s at bs → first_run n bs ≡ Some run → Tiles (taken_store s run n) at (taken n bs)
 taken-Tiles s n at [] run some even t e = cc
 taken-Tiles s n at (b ∷ bs) run some even t e = on (begins_run n (b ∷ bs)) refl (λ k. taken-Tiles s n (block_end b) bs run some even t.2 k) e

@@ -26,7 +26,7 @@ block_of_word-size_word b at w start word even =
     free_of true = (let e : (b.size + 1) % 2 ≡ 1 = omega (arith, even) in grind (arith, nat_tests))
     free_of false = grind (arith, nat_tests)
 
--- the size word of a block that stands in the store is not 0
+-- the size word of a block that is in the store is not 0
 pub size_word-some : (b : Block) → 2 ≤ b.size → 2 ≤ size_word b
 size_word-some b some = elim b.free as (λ f. 2 ≤ cond f (b.size + 1) b.size) [ true ↦ omega (arith, some) | false ↦ some ]
 
@@ -44,7 +44,7 @@ first_blocks-is (suc n) s at (b ∷ bs) t few =
     = ap (λ z. first_blocks n s (block_end z)) first ∙ first_blocks-is n s (block_end b) bs t.2 (omega (arith, few, t.0, t.1.some)) in
     rw some (λ i. first i ∷ others i)
 
--- the blocks that stand from an address on are found from the store alone
+-- the blocks that are from an address on are found from the store alone
 pub blocks_from-is : (s : List ℕ) (at : ℕ) (bs : List Block) → Tiles s at bs → blocks_from s at ≡ bs
 blocks_from-is s at bs t = first_blocks-is (length s) s at bs t (omega arith)
 

@@ -7,7 +7,7 @@ use Rattle.kernel_lists.specs.GetvecChain.Block.{block_end, has_data, is_used_at
 use Rattle.kernel_lists.specs.GetvecChain.Tiling.{IsBlockIn, Tiles, holding, used_at}
 use Rattle.kernel_lists.proofs.GetvecChain.Tilings.{Tiles-inside}
 
--- a block among those that stand from an address on
+-- a block among those that are from an address on
 pub record IsAmong (s : List ℕ) (at : ℕ) (b : Block) : Type 0 where
   pub low : at ≤ b.start
   pub valid : IsBlockIn s b

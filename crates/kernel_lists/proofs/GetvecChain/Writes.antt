@@ -10,7 +10,7 @@ use Rattle.kernel_lists.proofs.GetvecChain.UsedBlocks.{holding-before, used_at-h
 pub IsBlockIn-same : (s t : List ℕ) (b : Block) → get_or t b.start 0 ≡ get_or s b.start 0 → IsBlockIn s b → IsBlockIn t b
 IsBlockIn-same s t b same h = record { word = same ∙ h.word; some = h.some; even = h.even }
 
--- blocks stand in another store too, if each word from the first block to the end word that is no data of a block is the same there
+-- blocks are in another store too, if each word from the first block to the end word that is no data of a block is the same there
 pub Tiles-kept : (s t : List ℕ) (at : ℕ) (bs : List Block) → length t ≡ length s → ((a : ℕ) → at ≤ a → a + 2 ≤ length s → holding a bs ≡ None → get_or t a 0 ≡ get_or s a 0) → Tiles s at bs → Tiles t at bs
 Tiles-kept s t at [] len same h = (omega (arith, len, h.0), same at (omega arith) (omega (arith, h.0)) refl ∙ h.1)
 Tiles-kept s t at (b ∷ bs) len same h = (
@@ -36,7 +36,7 @@ Tiles-kept s t at (b ∷ bs) len same h = (
         skip true = refl
         skip false = refl
 
--- so they stand where each word from the first block on is the same
+-- so they are where each word from the first block on is the same
 pub Tiles-above : (s t : List ℕ) (at : ℕ) (bs : List Block) → length t ≡ length s → ((a : ℕ) → at ≤ a → get_or t a 0 ≡ get_or s a 0) → Tiles s at bs → Tiles t at bs
 Tiles-above s t at bs len same h = Tiles-kept s t at bs len (λ a low _ _. same a low) h
 

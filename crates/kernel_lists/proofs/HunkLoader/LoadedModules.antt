@@ -173,7 +173,7 @@ old_module s t1 m hunks tiled p n h =
     let b = in_block s n tiled h in
     p.words n h.block h.used n (omega (arith, b.start)) (omega (arith, b.few))
 
--- the list that was there stands on
+-- the list that was there is still there
 list_kept : (s t1 : List ℕ) (m : ℕ) (hunks : List Hunk) → HasModules s → Placed s t1 m hunks → IsListAt t1 module_link one_word 104 (modules_in s)
 list_kept s t1 m hunks h p = list-same s t1 module_link one_word 104 (linked s h) p.same_length (λ a some. by a (cell_at s h a some))
   where

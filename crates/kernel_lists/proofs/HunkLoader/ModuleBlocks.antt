@@ -39,7 +39,7 @@ in_block s m t h =
     let size = h.size in
     record { start = u.start; above = omega (arith, u.start, u.low); words = omega (arith, u.start, size); few = omega (arith, u.start, size); inside = u.inside }
 
--- a module stands where its block and its words stand; its link may be another
+-- a module is where its block and its words are; its link may be another
 pub module-same : (s t : List ℕ) (m : ℕ) → IsTiled s → (h : IsModuleAt s m) → length t ≡ length s → used_at m (blocks_in t) ≡ Some h.block
     → ((a : ℕ) → m < a → a < block_end h.block → get_or t a 0 ≡ get_or s a 0) → IsModuleAt t m
 module-same s t m tiled h size used same =
@@ -66,7 +66,7 @@ modules-apart s m n t h k differ = on (used_at-apart s 200 (blocks_in s) m n h.b
 
 -- ---- all modules
 
--- no module stands below the first block's data
+-- no module is below the first block's data
 times-low : (s : List ℕ) (ms : List ℕ) (a : ℕ) → IsTiled s → AllByRecursion (IsModuleAt s) ms → a < 201 → times a ms ≡ 0
 times-low s [] a t h low = refl
 times-low s (m ∷ ms) a t h low =
@@ -106,7 +106,7 @@ pub no_cell : (s : List ℕ) (h : HasModules s) (a : ℕ) → a ≢ 104 → time
 no_cell s h a ne none =
     omega (arith, times-cells s module_link one_word 104 (modules_in s) (linked s h).nodes a, hit-other a 104 ne, times-one a (modules_in s))
 
--- no module stands where no used block has its data
+-- no module is where no used block has its data
 pub no_block : (s : List ℕ) (ms : List ℕ) (v : ℕ) → AllByRecursion (IsModuleAt s) ms → used_at v (blocks_in s) ≡ None → times v ms ≡ 0
 no_block s [] v h e = refl
 no_block s (m ∷ ms) v h e = omega (arith, no_block s ms v h.1 e, hit-other v m differ)
@@ -114,7 +114,7 @@ no_block s (m ∷ ms) v h e = omega (arith, no_block s ms v h.1 e, hit-other v m
     differ : v ≢ m
     differ same = (let here : used_at v (blocks_in s) ≡ Some h.0.block = ap (λ z. used_at z (blocks_in s)) same ∙ h.0.used in cc)
 
--- a link stands in word 104 or in a module's first word
+-- a link is in word 104 or in a module's first word
 pub cell_at : (s : List ℕ) (h : HasModules s) (a : ℕ) → 0 < times a (cells module_link 104 (modules_in s)) → (a ≡ 104) ⊎ (0 < times a (modules_in s))
 cell_at s h a some = on (cases_eq a 104)
   where
@@ -136,7 +136,7 @@ no_module s (m ∷ ms) v b t h e =
     on start few s1 some (inr (inl before)) = λ same. absurd (omega arith)
     on start few s1 some (inr (inr after)) = λ same. absurd (omega arith)
 
--- modules stand, where the list does
+-- there are the modules, where there is the list
 pub valid-modules : (t : List ℕ) (ms : List ℕ) → IsTiled t → HasList t module_link one_word 104 → modules_in t ≡ ms → AllByRecursion (IsModuleAt t) ms → IsApart ms → HasModules t
 valid-modules t ms tiled l e all apart =
     let P : List ℕ → Type 0 = λ xs. AllByRecursion (IsModuleAt t) xs in

@@ -26,7 +26,7 @@ pub relocated-append : (base : ℕ) (words ps qs : List ℕ) → relocated base 
 relocated-append base words [] qs = refl
 relocated-append base words (p ∷ ps) qs = relocated-append base (set words p (add (get_or words p 0) base)) ps qs
 
--- words are relocated where they stand in a store
+-- words are relocated where they are in a store
 pub relocated-row : (base : ℕ) (s words os : List ℕ) → AllByRecursion (λ o. o < length words) os → base + length words ≤ length s
     → relocated base (with_words s base words) (places base os) ≡ with_words s base (relocated base words os)
 relocated-row base s words [] a fits = refl

@@ -9,7 +9,7 @@ use Rattle.kernel_lists.specs.LinkedList.Chain.{IsChain, cells, last_cell, links
 use Rattle.kernel_lists.specs.LinkedList.Linked.{IsLinked, IsNode}
 use Rattle.word_store.proofs.Counts.{hit-other, hit-same, times-within, times-words_more}
 
--- a chain stands where its cells are as they were
+-- a chain is where its cells are as they were
 pub IsChain-same : (s t : List ℕ) (link : ℕ → ℕ) (at : ℕ) (ps : List ℕ) → IsChain s link at ps
     → ((a : ℕ) → 0 < times a (cells link at ps) → get_or t a 0 ≡ get_or s a 0) → IsChain t link at ps
 IsChain-same s t link at [] chain same = same at (omega (arith, hit-same at at refl)) ∙ chain
@@ -48,7 +48,7 @@ times-nodes s link size [] n a = omega arith
 times-nodes s link size (p ∷ ps) n a =
     omega (arith, times-nodes s link size ps n.1 a, times-first s link size p n.0 a, times-words_more size a p ps)
 
--- no cell stands twice, and no node
+-- no cell is twice, and no node
 pub cells-apart : (s : List ℕ) (link size : ℕ → ℕ) (head : ℕ) (ps : List ℕ) → IsLinked s link size head ps → IsApart (cells link head ps)
 cells-apart s link size head ps l a = omega (arith, times-cells s link size head ps l.nodes a, l.apart a)
 
@@ -91,7 +91,7 @@ any_below n (p ∷ ps) below q e = on (eqb q p) refl e (any_below n ps below.1 q
     on true t k more = (let same : q ≡ p = grind (arith, nat_tests) in omega (arith, same, below.0))
     on false t k more = more k
 
--- there are no more addresses below a number than that number, where none stands twice
+-- there are no more addresses below a number than that number, where none is twice
 pub length-apart : (n : ℕ) (ps : List ℕ) → IsApart ps → AllByRecursion (λ p. p < n) ps → length ps ≤ n
 length-apart n ps apart below = length-le_from_distinct_below ps n (IsDistinct-from_apart ps apart) (any_below n ps below)
 
@@ -103,10 +103,10 @@ length-linked s link size head ps l = length-apart (length s) ps (nodes-apart s 
     below [] n = tt
     below (p ∷ ps) n = (omega (arith, n.0.after, n.0.before, n.0.inside), below ps n.1)
 
--- the store alone says which list stands at a head
+-- the store alone says which list is at a head
 pub list_at-is : (s : List ℕ) (link size : ℕ → ℕ) (head : ℕ) (ps : List ℕ) → IsLinked s link size head ps → list_at s link head ≡ ps
 list_at-is s link size head ps l = links_from-chain (length s) s link size head ps l.chain l.nodes (length-linked s link size head ps l)
 
--- so it stands there as the list that is found
+-- so it is there as the list that is found
 pub linked-found : (s : List ℕ) (link size : ℕ → ℕ) (head : ℕ) (ps : List ℕ) → IsLinked s link size head ps → IsLinked s link size head (list_at s link head)
 linked-found s link size head ps l = subst (IsLinked s link size head) (sym (list_at-is s link size head ps l)) l

@@ -1,4 +1,4 @@
--- A list stands on where the words that hold its links are as they were.
+-- A list is still there where the words that hold its links are as they were.
 use Rattle.std.proofs.Common.{◌≡◌, ◌≢◌, ℕ, ◌+◌, ◌<◌, ◌≤◌, List, [], ◌∷◌, ◌++◌, length, get_or, set, subst, arith, get_or-set_other, length-set}
 use Rattle.std.specs.List.{AllByRecursion}
 use Rattle.word_store.specs.Count.{node_words, times, words_of}
@@ -18,7 +18,7 @@ IsLinked-same s t link size head ps l len same =
       apart = l.apart;
     }
 
--- the same list stands in a store with the same links
+-- the same list is in a store with the same links
 pub list-same : (s t : List ℕ) (link size : ℕ → ℕ) (head : ℕ) → HasList s link size head → length t ≡ length s
     → ((a : ℕ) → 0 < times a (cells link head (list_at s link head)) → get_or t a 0 ≡ get_or s a 0) → IsListAt t link size head (list_at s link head)
 list-same s t link size head l len same = list_at-linked t link size head (list_at s link head) (IsLinked-same s t link size head (list_at s link head) l len same)

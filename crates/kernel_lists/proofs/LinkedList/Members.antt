@@ -137,7 +137,7 @@ without-keeps p r (q ∷ qs) ne some = on (eqb p q) refl (eqb r q) refl some (wi
     on false e true f some more = ap (λ c. c || has r (without p qs)) f
     on false e false f some more = ap (λ c. c || has r (without p qs)) f ∙ more (sym (ap (λ c. c || has r qs) f) ∙ some)
 
--- no address stands more often without a member, and the member not at all
+-- no address is there more often without a member, and the member not at all
 pub times-without : (a p : ℕ) (ps : List ℕ) → times a (without p ps) ≤ times a ps
 times-without a p [] = omega arith
 times-without a p (q ∷ qs) = on (eqb p q) (times-without a p qs)

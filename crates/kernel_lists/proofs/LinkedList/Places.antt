@@ -66,7 +66,7 @@ place f link at p (q ∷ qs) = on (list_any f (q ∷ qs)) refl (list_any f qs) r
           behind = r.behind;
         }
 
--- where a node stands
+-- where a node is
 pub record NodePlace (link : ℕ → ℕ) (at p : ℕ) (ps : List ℕ) : Type 0 where
   pub front : List ℕ
   pub back : List ℕ

@@ -1,4 +1,4 @@
--- Linked things whose words a store holds stand there as a linked list, and what it is to link one in or out.
+-- Linked things whose words a store holds are there as a linked list, and what it is to link one in or out.
 use Rattle.std.proofs.Common.{◌≡◌, ℕ, zero, suc, ◌+◌, ◌<◌, ◌≤◌, List, [], ◌∷◌, ◌++◌, length, map, get_or, set, false, refl, ap, ◌∙◌, subst, arith}
 use Rattle.std.specs.List.{AllByRecursion}
 use Rattle.word_store.specs.Count.{IsApart, times, words_of}

@@ -20,7 +20,7 @@ pub Holds-right : (s : List ℕ) (xs ys : Pairs) → Holds s (xs ++ ys) → Hold
 Holds-right s [] ys h = h
 Holds-right s (x ∷ xs) ys h = Holds-right s xs ys h.1
 
--- owned words stand on where their addresses are as they were
+-- owned words are held on where their addresses are as they were
 pub Holds-same : (s t : List ℕ) (xs : Pairs) → Holds s xs → ((a : ℕ) → 0 < owners a xs → get_or t a 0 ≡ get_or s a 0) → Holds t xs
 Holds-same s t [] h same = tt
 Holds-same s t (x ∷ xs) h same = (same x.0 (omega (arith, hit-same x.0 x.0 refl)) ∙ h.0, Holds-same s t xs h.1 (λ a k. same a (omega arith)))
@@ -57,7 +57,7 @@ pub written-append : (ws ps : Pairs) (s : List ℕ) → written (ws ++ ps) s ≡
 written-append [] ps s = refl
 written-append (e ∷ es) ps s = ap (λ z. set z e.0 e.1) (written-append es ps s)
 
--- what was written stands, where no address was written twice
+-- what was written is there, where no address was written twice
 pub Holds-written : (ws : Pairs) (s : List ℕ) → AreApart ws → AreInside s ws → Holds (written ws s) ws
 Holds-written [] s apart inside = tt
 Holds-written (e ∷ es) s apart inside = (

@@ -1,4 +1,4 @@
--- Packets whose words a store holds stand in a queue, and a call exchanges some of these words.
+-- Packets whose words a store holds are in a queue, and a call exchanges some of these words.
 use Rattle.std.proofs.Common.{◌≡◌, ℕ, ◌+◌, ◌<◌, ◌≤◌, List, [], ◌∷◌, ◌++◌, map, set, nat_le, sym, ap, ◌∙◌, subst, arith, append-nil}
 use Rattle.std.specs.List.{AllByRecursion}
 use Rattle.kernel_lists.specs.LinkedList.Chain.{last_cell}

@@ -1,4 +1,4 @@
--- Tasks whose words a store holds stand in its chain and in its table.
+-- Tasks whose words a store holds are in its chain and in its table.
 use Rattle.std.proofs.Common.{◌≡◌, ◌≢◌, ℕ, ◌+◌, ◌≤◌, List, [], ◌∷◌, ◌++◌, map, get_or, cond, eqb, Bool, true, false, Some, refl, sym, ap, ◌∙◌, subst, arith, inl, inr}
 use Rattle.std.specs.Prelude.{unwrap_or}
 use Rattle.std.specs.List.{AllByRecursion}

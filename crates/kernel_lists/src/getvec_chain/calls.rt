@@ -58,7 +58,7 @@ pub fn take_from(store: &mut Store, run: Run, u: u32) -> u32
     run.start + 1
 }
 
-// A used block of that size stands at the front of the run, and one free block of the rest, where there is any.
+// A used block of that size is at the front of the run, and one free block of the rest, where there is any.
 fn split(store: &mut Store, run: Run, size: u32)
     requires some { 0 < size }
     requires fits { run.start + size ≤ run.end }

@@ -1,4 +1,4 @@
-// What stands where among the blocks of a store.
+// What is where among the blocks of a store.
 ghost use Rattle.std.specs.Prelude.{◌≡◌, ◌^◌, ◌<◌, length};
 ghost use Rattle.kernel_lists.specs.GetvecChain.Run.{first_run, need};
 ghost use Rattle.kernel_lists.specs.GetvecChain.Tiling.{IsTiled, IsTiledFrom, blocks_from, blocks_in, holding, used_at};

@@ -25,7 +25,7 @@ pub enum LoadEnd {
     NoRoom,
 }
 
-/// No module of the list stands there.
+/// No module of the list is there.
 #[derive(Clone, Copy)]
 pub struct NoModule;
 

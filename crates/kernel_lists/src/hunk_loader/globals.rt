@@ -43,7 +43,7 @@ fn highest(store: &Store, base: u32, count: u32) -> u32
 }
 
 /// Sets the globals of the module at m in the words from g on, the hunks in their order. A hunk's last word is the highest
-/// number that it has; where that is 0, or there are no words, it sets none. Before it stand pairs of a number and a byte
+/// number that it has; where that is 0, or there are no words, it sets none. Before it are pairs of a number and a byte
 /// offset, read from the last one towards the front, up to an offset 0 or the hunk's begin. A pair with a number from 1 to
 /// 1,000 sets the word at g plus the number to 4 times the hunk's address plus the offset. Other pairs are passed over.
 pub fn init_globals(store: &mut Store, m: u32, g: u32)

@@ -14,7 +14,7 @@ pub struct Nodes<'a> {
     store: &'a Store,
     // the word that leads to the next node
     at: u32,
-    // where the link of a node stands, counted from its address
+    // where the link of a node is, counted from its address
     offset: u32,
 }
 

@@ -11,7 +11,7 @@ use crate::packet_queue::walk::PACKET_LINK;
 use word_store::Store;
 
 /// Puts the packet directly after the last one in the queue that is due no later, and at the front where there is none. So
-/// where the due ticks never fall along the queue, it stands after all that are due no later, and before the others.
+/// where the due ticks never fall along the queue, it is after all that are due no later, and before the others.
 pub fn append_due(store: &mut Store, head: u32, p: u32, due: u32)
     requires queue { HasQueue store.old head }
     requires packet { CanQueue store.old head p }

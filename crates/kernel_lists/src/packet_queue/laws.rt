@@ -7,7 +7,7 @@ ghost use Rattle.kernel_lists.specs.PacketQueue.DueOrder.{ArrivesLast, NeverFall
 ghost use Rattle.kernel_lists.specs.PacketQueue.QueueWords.{AppendExchange, CanAppend, DueExchange, HeldQueue, QueuedPacket, RemoveExchange, address_of, queue_words};
 
 /// Where due ticks never fall along a queue, they never fall along it once a packet was appended by its due tick, and
-/// packets that are due at one tick stand in the order in which they came.
+/// packets that are due at one tick are in the order in which they came.
 pub fn due_order_law()
     ensures never_falls { (s : List ℕ) (head p due : ℕ) → HasQueue s head → CanQueue s head p
         → NeverFalls s head

@@ -36,7 +36,7 @@ pub enum RootField {
 }
 
 impl RootField {
-    /// Where it stands in the store.
+    /// Where it is in the store.
     pub fn address(self) -> u32
         ensures { result ≡ root_address self }
     {

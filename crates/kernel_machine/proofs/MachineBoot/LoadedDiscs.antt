@@ -17,7 +17,7 @@ use Rattle.kernel_calls.specs.CallAnswers.Refusals.{first_refusal}
 use Rattle.kernel_model.specs.KernelRecord.Between.{AreShut}
 use Rattle.kernel_boot.specs.BootFiles.{HasNoStreams, at_line, disc_or_code, load_files, load_form, with_new_file}
 
--- ---- places where nothing stands
+-- ---- places where nothing is
 
 pub none-at : {X : Type 0} (n i : ℕ) → get_or {A = Option X} (replicate n None) i None ≡ None
 none-at {X} n i =

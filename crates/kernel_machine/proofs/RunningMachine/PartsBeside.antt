@@ -1,4 +1,4 @@
--- Others of the parts that stand beside the store.
+-- Others of the parts that are beside the store.
 use Rattle.std.proofs.Common.{◌≡◌, ℕ, List, Option}
 use Rattle.arrayvec.specs.ArrayVec.{ArrayVec}
 use Rattle.ram_disc.specs.Disc.{Disc}

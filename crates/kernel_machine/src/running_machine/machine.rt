@@ -25,7 +25,7 @@ use kernel_model::numbers::{CONSOLE, KEY_PACKET, SHELL, SHELL_PACKET, SIGNED_KEY
 use std::marker::Model;
 use word_store::Store;
 
-/// A machine with a kernel. Contracts see it as the one valid kernel for which its parts stand, all keys of its script, and the
+/// A machine with a kernel. Contracts see it as the one valid kernel that its parts represent, all keys of its script, and the
 /// bytes of its last step.
 #[derive(Drop)]
 pub struct Machine {

@@ -142,7 +142,7 @@ module _ (s t : List ℕ) (l : Lists) (front : List Task) (c : Task) (back : Lis
       ∙ ap (λ w. set (unlinked s head p.address) (c.address + 4) w) ((λ i. taken_state (state i) (next i)) ∙ taken-state c p qs task.field held.some.1)
       ∙ ap (λ z. set z (c.address + 4) (state_word u)) moved.words)
 
-  -- the packet's sender still stands in it
+  -- the packet's sender still is in it
   pub sender-stays : t ≡ with_taken s c.address p.address → get_or t (p.address + 1) 0 ≡ p.sender
   sender-stays is_t =
       ap (λ z. get_or z (p.address + 1) 0) (is_t ∙ ap (λ z. set z (c.address + 4) (taken_state (state_of s c.address) (get_or (unlinked s head p.address) head 0))) moved.words)

@@ -18,7 +18,7 @@ use Rattle.kernel_model.proofs.KernelRecord.FollowedBlocks.{IsWithin, found-hold
 
 -- ---- a store
 
--- blocks that follow one another stand in some store
+-- blocks that follow one another are in some store
 abbrev pub store_of : List Block → ℕ → List ℕ
 store_of bs end = with_size_words (replicate (end + 2) 0) bs
 

@@ -20,8 +20,8 @@ use Rattle.kernel_model.proofs.KernelRecord.EachMember.{all-each}
 abbrev pub with_chain : List Task → Option ℕ → Bool → Lists → Lists
 with_chain ts x f l = record l { tasks = ts; key = x; fault_packet_free = f }
 
--- What a chain in place of another has to meet: the residents of before are there, its tasks and their coroutines stand in order,
--- the packets may stand where they are queued, the residents' two packets are free where they are on no queue, and the running
+-- What a chain in place of another has to meet: the residents of before are there, its tasks and their coroutines are in order,
+-- the packets may be where they are queued, the residents' two packets are free where they are on no queue, and the running
 -- task is there.
 pub record FitsChain (l : Lists) (ts : List Task) (x : Option ℕ) (f : Bool) : Type 0 where
   pub residents : (i : ℕ) → is_guest_id i ≡ false → has_task i ts ≡ has_task i l.tasks

@@ -23,7 +23,7 @@ has_task-other i front t back ne = any-between (λ z. eqb z.id i) front t back (
 pub guest-other : (t i : ℕ) → is_guest_id t ≡ true → is_guest_id i ≡ false → t ≢ i
 guest-other t i guest none e = cc (ap is_guest_id e)
 
--- how often a number stands in the chain
+-- how often a number is in the chain
 pub times-id : (a : ℕ) (front : List Task) (t : Task) (back : List Task) → times a (map task_id (front ++ t ∷ back)) ≡ times a (task_id t ∷ map task_id (front ++ back))
 times-id a front t back =
     omega (

@@ -12,7 +12,7 @@ times-cut a p (suc n) m q k e f =
     let more : k ≡ suc (n + m) = omega arith in
     omega (arith, times-cut a (p + 1) n m q (n + m) (omega arith) refl, ap (λ z. times a (range_with_len p z)) more)
 
--- the words 0 to 22 of what stands at t: its link, two words, its queue's head, thirteen, four of its coroutines, and two
+-- the words 0 to 22 of what is at t: its link, two words, its queue's head, thirteen, four of its coroutines, and two
 pub times-head : (a t : ℕ) → times a (range_with_len t 23)
     ≡ hit a t + (times a (range_with_len (t + 1) 2) + (hit a (t + 3) + (times a (range_with_len (t + 4) 13)
     + (hit a (t + 17) + (hit a (t + 18) + (hit a (t + 19) + (hit a (t + 20) + times a (range_with_len (t + 21) 2))))))))

@@ -28,7 +28,7 @@ image-list s k is =
     ext_get_or 0 s (image k) (is.size ∙ sym (length-map-range_with_len (word_of k) 0 k.lists.size))
     (λ a low. sym (image-word s k is a low) ∙ sym (get_or-map-range_with_len (word_of k) 0 k.lists.size a a 0 (omega (arith, low, is.size)) (omega arith)))
 
--- a store that has each word of some pairs holds them, where no address stands twice
+-- a store that has each word of some pairs holds them, where no address is twice
 holds-words : (s : List ℕ) (other : ℕ → ℕ) (es : Pairs) → AreApart es → ((a : ℕ) → 0 < owners a es → get_or s a 0 ≡ unwrap_or (word_in a es) (other a)) → Holds s es
 holds-words s other [] apart same = tt
 holds-words s other (e ∷ es) apart same = (

@@ -37,7 +37,7 @@ KeepsOrder-beside Keyboard front p back h = tt
 KeepsOrder-beside Output front p back h = tt
 KeepsOrder-beside Pending front p back h = tt
 
--- ---- what stands at a place
+-- ---- what is at a place
 
 pub valid-at-place : (l : Lists) (at : Place) → AreValid l → HasPlace l at → AllByRecursion (IsValidPacket l at) (queue_of at l)
 valid-at-place l (Work id) v has =
@@ -51,7 +51,7 @@ valid-at-place l Keyboard v has = v.queues.keyboard
 valid-at-place l Output v has = v.queues.output
 valid-at-place l Pending v has = v.queues.pending
 
--- where a packet stands there is a place
+-- where a packet is there is a place
 work-there : (id : ℕ) (ts : List Task) (front : List QueuedPacket) (p : QueuedPacket) (back : List QueuedPacket) → work_of id ts ≡ front ++ p ∷ back → has_task id ts ≡ true
 work-there id [] front p back e = absurd (some front e)
   where
@@ -88,7 +88,7 @@ place-order l Pending v = tt
 
 -- ---- the queues of devices and residents
 
--- What such queues have to meet: their packets may stand there, due ticks never fall, and without residents no read waits.
+-- What such queues have to meet: their packets may be there, due ticks never fall, and without residents no read waits.
 pub record FitQueues (l : Lists) (c k o p : List QueuedPacket) : Type 0 where
   pub clock : AllByRecursion (IsValidPacket l Clock) c
   pub keyboard : AllByRecursion (IsValidPacket l Keyboard) k

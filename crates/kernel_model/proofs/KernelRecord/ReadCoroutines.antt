@@ -1,4 +1,4 @@
--- The coroutines of a task of valid lists stand in a store that holds its words.
+-- The coroutines of a task of valid lists are in a store that holds its words.
 use Rattle.std.proofs.Common.{◌≡◌, ◌⊎◌, inl, inr, ℕ, ◌+◌, ◌<◌, ◌≤◌, List, [], ◌++◌, map, false, ap, ◌∙◌, arith}
 use Rattle.std.specs.List.{range_with_len}
 use Rattle.std.proofs.lemmas.Bool.{false_from_ne_true}
@@ -49,7 +49,7 @@ holds-task s version t n h =
       coroutines = Holds-right s queue frames last;
     }
 
--- no coroutine stands where its task's words begin
+-- no coroutine is where its task's words begin
 elsewhere : (t : Task) → ((a : ℕ) → times a (range_with_len t.address 23) + owners a (frames_of t) ≤ 1) → has t.address (map address_of t.coroutines.list) ≡ false
 elsewhere t apart =
     let cs : List ℕ = map address_of t.coroutines.list in

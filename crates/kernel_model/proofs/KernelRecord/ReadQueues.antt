@@ -1,4 +1,4 @@
--- The queues of valid lists stand in a store that holds their words.
+-- The queues of valid lists are in a store that holds their words.
 use Rattle.std.proofs.Common.{ℕ, ◌<◌, ◌≤◌, List, arith}
 use Rattle.std.specs.List.{AllByRecursion}
 use Rattle.kernel_lists.specs.OwnedWords.Owned.{AreInside, Holds, Pairs, owners}

@@ -1,4 +1,4 @@
--- The blocks, the tasks and the modules of valid lists stand in a store that holds their words.
+-- The blocks, the tasks and the modules of valid lists are in a store that holds their words.
 use Rattle.std.proofs.Common.{◌≡◌, ℕ, ◌+◌, ◌-◌, ◌<◌, ◌≤◌, List, length, get_or, refl, ap, ◌∙◌, arith}
 use Rattle.std.specs.List.{AllByRecursion}
 use Rattle.kernel_lists.specs.OwnedWords.Owned.{Holds}
@@ -18,7 +18,7 @@ use Rattle.kernel_model.proofs.KernelRecord.OwnedParts.{HoldsParts, holds-parts,
 use Rattle.kernel_model.proofs.KernelRecord.RootCounts.{Holds-entry, RootWords, highest-high, owners-nodes, root-held}
 use Rattle.kernel_model.proofs.KernelRecord.TaskPlaces.{TaskPlace, task-places, task-some}
 
--- the blocks stand
+-- the blocks are there
 pub record ReadsBlocks (s : List ℕ) (l : Lists) : Type 0 where
   pub tiled : IsTiled s
   pub blocks : blocks_in s ≡ l.blocks

@@ -112,7 +112,7 @@ gone-unqueued l at p front back v r is = on (is_queued p.address m) refl
 
 -- ---- the key packet
 
--- it stands where it may
+-- it is where it may be
 key-place : (l : Lists) (at : Place) (p : QueuedPacket) → AreValid l → l.residents ≡ true → IsKeyPacket at p → HasPlace l at
 key-place l (Work id) p v r k = ap (λ i. has_task i l.tasks) k.place.0 ∙ v.tasks.console ∙ r
 key-place l Clock p v r k = tt

@@ -107,6 +107,6 @@ task-places l v =
         on true guest = guest-place l t guest (h.0.guest guest)
         on false resident = resident-place l t v.tasks v.numbers.residents h.1 resident (h.0.resident resident)
 
--- no task stands at 0
+-- no task is at 0
 pub task-some : (l : Lists) (t : Task) → TaskPlace l t → 0 < t.address
 task-some l t p = omega (arith, p.block.here, p.low)

@@ -78,7 +78,7 @@ frames-owned v version (t ∷ ts) end some =
     right : (x y w : ℕ) → w ≡ x + y → 0 < y → 0 < w
     right x y w e some = omega arith
 
--- the shell stands at the front of the resident block
+-- the shell is at the front of the resident block
 shell-there : (l : Lists) (ts : List Task) → AllByRecursion (IsTask l) ts → has_task 1 ts ≡ true → has 201 (map task_address ts) ≡ true
 shell-there l [] all some = cc
 shell-there l (t ∷ ts) all some = on (eqb t.id 1) refl some (shell-there l ts all.1)

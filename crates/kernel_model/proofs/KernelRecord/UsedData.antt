@@ -82,7 +82,7 @@ module _ (bs : List Block) (end : ℕ) (follow : Follow 200 bs end) where
       let within : 0 < times a (range_with_len m.address k) = omega (arith, some, owners-row a m.address 1 (length m.lengths ∷ m.lengths)) in
       block-data m.address (last_module_word m) a b (range-low a m.address k within) (omega (arith, range-high a m.address k within))
 
--- what may stand in a queue is lodged
+-- what may be in a queue is lodged
 pub lodged : (l : Lists) (at : Place) (ps : List QueuedPacket) → AllByRecursion (IsValidPacket l at) ps → AllByRecursion (λ p. AreData l.blocks p.address 5) ps
 lodged l at ps all = all-each (IsValidPacket l at) (λ p. AreData l.blocks p.address 5) (λ p may. may.lodged) ps all
 

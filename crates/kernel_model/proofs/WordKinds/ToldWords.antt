@@ -27,7 +27,7 @@ released-one tells told p release count once k known same =
 
 -- ---- claimed
 
--- an address that stands in a list, taken out of it once
+-- an address that is in a list, taken out of it once
 times-out : (p : ℕ) (xs : List ℕ) → 0 < times p xs → (a : ℕ) → times a xs ≡ times a (without p xs) + hit a p
 times-out p [] some a = absurd (omega (arith, some))
 times-out p (x ∷ xs) some a = on (eqb p x) refl (λ more. times-out p xs more a)

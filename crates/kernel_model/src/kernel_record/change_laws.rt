@@ -85,7 +85,7 @@ pub fn unqueued_law()
         → AreUnowned (with_queue at (front ++ back) l) p.address (p.address + 5) }
 {}
 
-/// The console's key packet comes into a queue where it may stand, off which it was; or it goes out of its queue, and its res1
+/// The console's key packet comes into a queue where it may be, off which it was; or it goes out of its queue, and its res1
 /// is kept.
 pub fn key_packet_law()
     ensures queued { (l : Lists) (at : Place) (p : QueuedPacket) (front back : List QueuedPacket)
@@ -97,7 +97,7 @@ pub fn key_packet_law()
         → AreValid (with_key (Some p.res1) (with_queue at (front ++ back) l)) }
 {}
 
-/// The same for the packet of the task that reports faults, which stands on its work queue alone.
+/// The same for the packet of the task that reports faults, which is on its work queue alone.
 pub fn fault_packet_law()
     ensures queued { (l : Lists) (p : QueuedPacket) (front back : List QueuedPacket)
         → AreValid l → queue_of (Work 2) l ≡ front ++ back → l.fault_packet_free ≡ true

@@ -1,4 +1,4 @@
-// Laws of valid lists: how they stand in a store that holds their words, and where these words lie.
+// Laws of valid lists: how they are in a store that holds their words, and where these words lie.
 ghost use Rattle.std.specs.Prelude.{◌≡◌, ◌<◌, ◌↔◌, ◌++◌, ◌∷◌, ℕ, List, length, true};
 ghost use Rattle.kernel_lists.specs.OwnedWords.Owned.{Holds, owners};
 ghost use Rattle.kernel_lists.specs.declared.getvec_chain.pieces.Block.{Block};
@@ -12,7 +12,7 @@ ghost use Rattle.kernel_model.specs.KernelRecord.Recovered.{lists_in};
 ghost use Rattle.kernel_model.specs.KernelRecord.UsedData.{OwnedWhere};
 ghost use Rattle.kernel_model.specs.KernelRecord.ValidLists.{AreValid};
 
-/// Where a store holds the words that valid lists own, each of the lists stands in it: the blocks tile, the chain of tasks, the
+/// Where a store holds the words that valid lists own, each of the lists is in it: the blocks tile, the chain of tasks, the
 /// modules, the queues and the coroutines are those that the links form.
 pub fn reading_law()
     ensures { (s : List ℕ) (l : Lists) → AreValid l → length s ≡ l.size → Holds s (owned l)

@@ -14,7 +14,7 @@ use Rattle.machine_ring.proofs.RingLink.ListPlaces.{Each, drop-one, each-cons, s
 pub record IsOffered (acknowledged : ℕ) (offered : List ℕ) (numbered : ℕ × ℕ) : Type 0 where
   -- its number is at most the count of those
   pub low : numbered.0 ≤ acknowledged
-  -- it stands in that place
+  -- it is in that place
   pub byte : slice_get offered numbered.0 ≡ Some numbered.1
 
 -- what holds from the beginning on

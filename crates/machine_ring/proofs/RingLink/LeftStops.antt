@@ -100,7 +100,7 @@ whole_front lines h s (m ∷ ms) are =
     let size = ap length (front-has lines h) in
     absurd (omega (arith, count, one, size, length-append front (m ∷ ms), length-append h.front (h.go ∷ [])))
 
--- where the line stands, it is read whatever follows
+-- where the line is there, it is read whatever follows
 refused_again : (front : List (List ℕ)) (line : List ℕ) (more : List (List ℕ)) (q : Refusal) (s : (rest : List (List ℕ)) → session_lines (front ++ line ∷ rest) ≡ Err q) → AllByRecursion IsNoGo front
     → left_lines (front ++ line ∷ more) ≡ Err q
 refused_again front line more q s none = again (is_go line) refl

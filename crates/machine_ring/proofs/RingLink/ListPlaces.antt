@@ -1,9 +1,9 @@
--- Places of lists: what stands there, before it and after it.
+-- Places of lists: what is there, before it and after it.
 use Rattle.std.proofs.Common.{◌≡◌, ℕ, zero, suc, Some, List, [], ◌∷◌, ◌++◌, take, drop, refl, ap, subst}
 use Rattle.std.specs.Prelude.{slice_get}
 
 module _ {X : Type 0} where
-  -- the property holds of what stands in each place
+  -- the property holds of what is in each place
   abbrev pub Each : (X → Type 0) → List X → Type 0
   Each P xs = (k : ℕ) (x : X) → slice_get xs k ≡ Some x → P x
 

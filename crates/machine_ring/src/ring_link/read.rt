@@ -13,7 +13,7 @@ use module_text::TextEnd;
 use std::alloc::Global;
 
 /// The ring of a text. Unless memory runs out, `Bad` comes exactly where the text is none, with the first line in
-/// error, from 1, and its code: 1 where no such form may stand there, 2 where a number, a name or the number of
+/// error, from 1, and its code: 1 where no such form may be there, 2 where a number, a name or the number of
 /// letters is out of its range, and 3 where the text ended before the right machine's `GO` line, which is one more
 /// than the lines that there are. `WantMemory` comes only where memory could not be had.
 pub fn read_ring(alloc: Global, text: &[u8]) -> Result<RingInput, TextEnd>

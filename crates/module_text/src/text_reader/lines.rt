@@ -20,14 +20,14 @@ pub fn split_line(text: &[u8]) -> Option<(&[u8], &[u8])>
     }
 }
 
-// Where the first LF stands.
+// Where the first LF is.
 fn line_feed(text: &[u8]) -> Option<usize>
     ensures { result ≡ position (λ c. c == 10) text.now }
 {
     text.iter().position(|c| *c == b'\n')
 }
 
-// A line that stands before a LF: a CR at its end belongs to the line's end.
+// A line that is before a LF: a CR at its end belongs to the line's end.
 fn without_carriage_return(line: &[u8]) -> &[u8]
     ensures { result.now ≡ strip_carriage_return line.now }
 {

@@ -91,7 +91,7 @@ number : {i j : ℕ} → Work i ≡ Work j → i ≡ j
 number e = cc
 
 module _ (l : Lists) (there : has_task 2 l.tasks ≡ true) where
-  -- it stands nowhere else
+  -- it is nowhere else
   elsewhere : (at : Place) → (at ≡ Work 2 → ⊥) → (ps : List QueuedPacket) → AllByRecursion (IsValidPacket l at) ps → is_on_queue fault_packet ps ≡ false
   elsewhere at other [] all = refl
   elsewhere at other (p ∷ ps) all =

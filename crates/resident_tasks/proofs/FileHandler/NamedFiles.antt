@@ -9,7 +9,7 @@ abbrev bad_name : ℕ
 bad_name = 40
 
 module _ (s : List ℕ) (d : Disc) where
-  -- what is made of the name that was read is what is made of the name that stands there
+  -- what is made of the name that was read is what is made of the name that is there
   pub named : (a : ℕ) (name : List ℕ) (of : List ℕ → Handled) → Ok name ≡ name_at s a → of name ≡ unless_refused d ((is_name_at s a, 40) ∷ []) (of (string_in s a))
   named a name of e = on (is_name_at s a) e
     where

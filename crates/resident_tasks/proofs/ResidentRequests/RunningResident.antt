@@ -22,7 +22,7 @@ module _ (s : List ℕ) (l : Lists) (h : HoldsLists s l) (r : RunsResident l) wh
   pub resident-at : TaskAt l.tasks l.running (address_of_task l l.running)
   resident-at = there-at l.running l.tasks r.there
 
-  -- its number stands in its block
+  -- its number is in its block
   pub resident-number : get_or s (address_of_task l l.running + 1) 0 ≡ l.running
   resident-number =
       ap (λ a. get_or s (a + 1) 0) (sym resident-at.at)

@@ -12,7 +12,7 @@ pub fn refusal_law()
         → (file_request d s l r).answer ≡ Err code → file_request d s l r ≡ refused d code }
 {}
 
-/// A turn leaves the shell's stream where it stands, or closed.
+/// A turn leaves the shell's stream where it is, or closed.
 pub fn shell_law()
     ensures { (d : Disc) (s : List ℕ) (l : Lists)
         → stream_at (disc_after_turn d s l) shell_stream ≡ stream_at d shell_stream }

@@ -36,7 +36,7 @@ pub fn kept_law()
         → ArePipes (after ps r).pipes }
 {}
 
-/// A turn of the file handler leaves lawful pipes with distinct names, whatever stands in the store.
+/// A turn of the file handler leaves lawful pipes with distinct names, whatever is in the store.
 pub fn turn_law()
     ensures { (ps : List (Option Pipe)) (s : List ℕ) (l : Lists) → ArePipes ps
         → ArePipes (pipes_after_turn ps s l) }

@@ -111,7 +111,7 @@ pub(crate) fn byte_in(store: &Store, a: u32, i: u32) -> u8
 }
 
 /// Writes these bytes into the words from a on, of which it changes no other byte. In a buffer of n bytes or more that may be
-/// written for a request, the lists stay, and the request stands.
+/// written for a request, the lists stay, and so does the request.
 pub fn write_buffer(store: &mut Store, a: u32, bytes: &[u8])
     requires { length bytes.now ≤ 4096 }
     ensures words { store.new ≡ with_bytes store.old a 0 bytes.now }

@@ -1,4 +1,4 @@
--- What stands at the places of a list, with the numbers of its places.
+-- What is at the places of a list, with the numbers of its places.
 use Rattle.std.proofs.Common.{◌≡◌, ◌∙◌, ℕ, zero, suc, ◌+◌, Option, None, List, [], ◌∷◌, ◌++◌, drop, refl, sym}
 use Rattle.std.specs.Option.{option_to_list}
 use Rattle.std.specs.Prelude.{slice_get, slice_index_or}

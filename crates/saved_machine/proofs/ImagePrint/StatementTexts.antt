@@ -65,7 +65,7 @@ line-range bytes i =
 
 -- ---- streams and pipes
 
--- what stands at place k, and at those behind it
+-- what is at place k, and at those behind it
 numbered-at : {A B : Type 0} (f : ℕ → A → B) (statement : B → Statement) (xs : List (Option A)) (k : ℕ) → 0 < k
     → statements_text (map statement (with_places f k (drop (k - 1) xs)))
     ≡ statements_text (map statement (at_place f k (if k == 0 then None else slice_index_or xs (k - 1) None)))

@@ -20,13 +20,13 @@ Filed fs = record { files = fs; streams = replicate 17 None }
 
 -- ---- order
 
--- a file stands before all that stand behind the next one
+-- a file is before all that are behind the next one
 before-all : (f g : SavedFile) (fs : List SavedFile) → is_before f.name g.name ≡ true → AllByRecursion (λ name. is_before g.name name ≡ true) (map (λ (h : File). h.name) (map file_of fs))
     → AllByRecursion (λ name. is_before f.name name ≡ true) (map (λ (h : File). h.name) (map file_of fs))
 before-all f g [] is all = tt
 before-all f g (h ∷ fs) is all = (is_before-trans f.name g.name h.name is all.0, before-all f g fs is all.1)
 
--- names of which each stands before the next are in order
+-- names of which each is before the next are in order
 pub in-order : (fs : List SavedFile) → AreFiles fs → AreInOrder (map (λ (f : File). f.name) (map file_of fs))
 in-order [] files = tt
 in-order (f ∷ []) files = (tt, tt)
@@ -34,7 +34,7 @@ in-order (f ∷ g ∷ fs) files =
     let rest = in-order (g ∷ fs) files.2 in
     ((files.1, before-all f g fs files.1 rest.0), rest)
 
--- all these files stand before the one of this name
+-- all these files are before the one of this name
 abbrev pub AreBefore : List ℕ → List File → Type 0
 AreBefore name fs = AllByRecursion (λ (g : File). is_before g.name name ≡ true) fs
 
@@ -60,7 +60,7 @@ none-behind name (g ∷ gs) before =
     ap (λ b. cond b (g ∷ filter (λ (h : File). is_before name h.name) gs) (filter (λ (h : File). is_before name h.name) gs)) (is_before-back g.name name before.0)
     ∙ none-behind name gs before.1
 
--- a file that stands behind all others comes in behind them
+-- a file that is behind all others comes in behind them
 pub with-last : (gs : List File) (f : File) → AreBefore f.name gs → with_file f gs ≡ gs ++ f ∷ []
 with-last gs f before =
     ap (λ hs. hs ++ f ∷ filter (λ (g : File). is_before f.name g.name) gs) (front-kept f.name gs before)

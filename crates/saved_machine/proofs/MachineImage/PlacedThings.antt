@@ -170,12 +170,12 @@ module _ {A B : Type 0} (number : A → ℕ) (thing : A → B) (places : ℕ) wh
 
 -- ---- a list at an element
 
--- a list is what stands before an element, the element, and what stands behind it
+-- a list is what is before an element, the element, and what is behind it
 pub split-at : {A : Type 0} (xs : List A) (i : ℕ) (a : A) → i < length xs → a ≡ get_or xs i a → xs ≡ take i xs ++ a ∷ drop (suc i) xs
 split-at xs i a low is =
     sym (take-append-drop i xs)
     ∙ ap (λ ys. take i xs ++ ys) (drop-cons xs i a low ∙ ap (λ b. b ∷ drop (suc i) xs) (sym is))
 
--- and up to the element it is what stands before it, and the element
+-- and up to the element it is what is before it, and the element
 pub take-at : {A : Type 0} (xs : List A) (i : ℕ) (a : A) → i < length xs → a ≡ get_or xs i a → take (i + 1) xs ≡ take i xs ++ a ∷ []
 take-at xs i a low is = take_more xs i a low ∙ ap (λ b. take i xs ++ b ∷ []) (sym is)

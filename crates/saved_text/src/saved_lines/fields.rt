@@ -1,4 +1,4 @@
-// The fields of a line, which stand between blanks.
+// The fields of a line, which are between blanks.
 ghost use Rattle.std.specs.Prelude.{◌≡◌, ◌==◌, option_map};
 ghost use Rattle.std.specs.Char.{is_ascii_graphic};
 ghost use Rattle.std.specs.List.{list_all, position};
@@ -18,7 +18,7 @@ fn are_graphic(field: &[u8]) -> bool
     field.iter().all(|c| c.is_ascii_graphic())
 }
 
-/// A field before the first blank, and what stands after that; `None` exactly where there are not both.
+/// A field before the first blank, and what is after that; `None` exactly where there are not both.
 pub fn field_before_blank(text: &[u8]) -> Option<(&[u8], &[u8])>
     ensures { option_map (λ x. (x.0.now, x.1.now)) result ≡ field_before_blank text.now }
 {
@@ -26,7 +26,7 @@ pub fn field_before_blank(text: &[u8]) -> Option<(&[u8], &[u8])>
     is_field(field).then_some((field, rest))
 }
 
-// What stands before and after the first blank.
+// What is before and after the first blank.
 fn split_at_blank(text: &[u8]) -> Option<(&[u8], &[u8])>
     ensures { option_map (λ x. (x.0.now, x.1.now)) result ≡ split_at_blank text.now }
 {

@@ -8,7 +8,7 @@ use crate::saved_lines::hex_text::{byte_of, hex_field, is_hex, word_of};
 use module_text::{after_word, number};
 use session_text::number_field;
 
-/// What a line states, with its numbers and names as they stand there.
+/// What a line states, with its numbers and names as they are there.
 #[derive(Clone, Copy)]
 pub enum Statement<'a> {
     /// A file of this name.

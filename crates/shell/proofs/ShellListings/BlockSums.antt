@@ -63,7 +63,7 @@ counted-more c b bs m = elim b.free as (λ free. MayCountAll (cond free (with_fr
   }
 ]
 
--- blocks that follow one another have no more words than stand from the first to the end
+-- blocks that follow one another have no more words than are from the first to the end
 follow-words : (at : ℕ) (bs : List Block) (end : ℕ) → Follow at bs end → at + words_of_blocks bs ≡ end
 follow-words at [] end f = omega (arith, f)
 follow-words at (b ∷ bs) end f = omega (arith, f.0, follow-words (block_end b) bs end f.3, words-more b bs)

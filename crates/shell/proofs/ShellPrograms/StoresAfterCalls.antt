@@ -1,4 +1,4 @@
--- What a call leaves of a standing.
+-- What a call leaves of a store with its lists.
 use Rattle.std.proofs.Common.{List, Result, arith, length, subst, sym, ℕ, [], ◌≡◌, ◌≤◌}
 use Rattle.kernel_model.specs.KernelRecord.ChangedStore.{HasKeeper, IsChanged}
 use Rattle.kernel_model.specs.KernelRecord.Lists.{Lists}
@@ -12,7 +12,7 @@ use Rattle.kernel_boot.proofs.StoresAfterCalls.{keeper-made, left-is}
 use Rattle.shell.specs.ShellPrograms.StoresWithLists.{RepresentsStoreWithLists, left_by}
 use Rattle.shell.specs.ShellPrograms.StartedProgram.{begun}
 
--- the store that a call leaves has this standing
+-- the store that a call leaves, with its lists
 pub made-represents : (s t : List ℕ) (tells : List ℕ → Type 0) (room : ℕ) (r : Result ℕ ℕ) (m : Made) → IsMade s t tells r m → length s ≤ room → RepresentsStoreWithLists t tells room (left_by s m)
 made-represents s t tells room r m made enough = record { words = left-is s t m.lists m.plain made.leaves.lists; keeper = keeper-made s t tells r m made room enough }
 

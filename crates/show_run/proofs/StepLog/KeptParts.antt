@@ -1,4 +1,4 @@
--- A machine with a kernel, of which it is known for what its parts stand.
+-- A machine with a kernel, of which it is known what its parts represent.
 use Rattle.std.proofs.Common.{◌≡◌, ℕ, Option, Some, List, [], ◌∷◌, map, refl, sym, ap, ◌∙◌, cond, true, false, Bool, ◌==◌}
 use Rattle.std.specs.List.{find}
 use Rattle.std.specs.Option.{option_map}
@@ -16,7 +16,7 @@ use Rattle.debugger.proofs.KernelLists.{tasks-back}
 use Rattle.show_run.specs.StepLog.Answers.{answer_at, answer_of_task, answer_saved}
 use Rattle.show_run.specs.StepLog.Faults.{record_at, record_of_task, recorded}
 
--- what holds of each kernel for which the parts stand, holds of the machine
+-- what holds of each kernel that the parts represent, holds of the machine
 pub on-represented : (p : Parts) (s : State) (P : State → Type 0) → RepresentsFullState p s → ((k : Kernel) → RepresentsKernel p k → P (Full k)) → P s
 on-represented p (Bare m) P x each = absurd x
 on-represented p (Full k) P x each = each k x

@@ -16,7 +16,7 @@ use debugger::{gather_instructions, is_guest_next};
 use tripos_machine::Machine;
 use word_store::Store;
 
-/// The step that comes next, and where the machine stands.
+/// The step that comes next, and where the machine is.
 pub(crate) fn moment(machine: &Machine) -> Moment
     requires { steps_of machine.now.state + 1 < 2 ^ 64 }
     ensures { result ≡ moment_of machine.now.state }

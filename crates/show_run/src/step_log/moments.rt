@@ -8,7 +8,7 @@ ghost use Rattle.show_run.specs.StepLog.Moments.{line, prefix, start};
 use byte_streams::Piece::{Decimal, Text};
 use byte_streams::{Output, Piece, Sink, SinkFault, gather, gather_pieces};
 
-/// The number of a step, and where the machine stands before it.
+/// The number of a step, and where the machine is before it.
 #[derive(Clone, Copy)]
 pub struct Moment {
     /// The number of the step; the first step is 1.

@@ -1,4 +1,4 @@
--- Things whose links form a chain, and whose other words stand, are held.
+-- Things whose links form a chain, and whose other words are in the store, are held.
 use Rattle.std.proofs.Common.{◌≡◌, ℕ, zero, suc, ◌+◌, ◌≤◌, List, [], ◌∷◌, length, map, get_or, refl, sym, ap, ◌∙◌, subst, arith}
 use Rattle.std.specs.Prelude.{slice_range}
 use Rattle.std.specs.List.{AllByRecursion}

@@ -13,7 +13,7 @@ ghost use Rattle.store_claims.specs.AdoptionLaw.ClaimableStore.{AreClaimable, Op
 ghost use Rattle.store_claims.specs.AdoptionLaw.ClaimCounts.{AreUsed, claim_count};
 ghost use Rattle.store_claims.specs.AdoptionLaw.Passes.{IsValidRoot};
 
-/// Where root and blocks stand, and each word that a list has is claimed once, among the data of used blocks, no word is owned
+/// Where root and blocks are right, and each word that a list has is claimed once, among the data of used blocks, no word is owned
 /// twice, and each is one of the store. Where the store holds the words of valid lists, what is claimed are such data. And words
 /// of a range, all of them such data, are data of one block.
 pub fn claimed_law()

@@ -15,9 +15,9 @@ pub follows-join : (xs ys : List Timed) (b m a : Ledger) → Follows xs b m → 
 follows-join [] ys b m a e f = subst (λ z. Follows ys z a) (sym e) f
 follows-join (x ∷ xs) ys b m a h f = (h.0, follows-join xs ys (after_event x.event x.due b) m a h.1 f)
 
--- ---- where a packet stands
+-- ---- where a packet is
 
--- a packet that stands on one queue stands on no other
+-- a packet that is on one queue is on no other
 pub elsewhere : (b : Ledger) (h : AreOnce b) (p : ℕ) (r q : ℤ) → is_on_queue p (b r) ≡ true → same_queue q r ≡ false → is_on_queue p (b q) ≡ false
 elsewhere b h p r q here other = on (is_on_queue p (b q)) refl
   where
@@ -99,7 +99,7 @@ pub follows-once : (xs : List Timed) (b a : Ledger) → AreOnce b → Follows xs
 follows-once [] b a h e = subst AreOnce e h
 follows-once (x ∷ xs) b a h f = follows-once xs (after_event x.event x.due b) a (once-after x.event x.due b h f.0) f.1
 
--- ---- what was just taken stands nowhere
+-- ---- what was just taken is nowhere
 
 pub taken-nowhere : (q : ℤ) (p : ℕ) (s : ℤ) (due : ℕ) (b : Ledger) → AreOnce b → IsFirst p s (b q) → IsNowhere p (after_event (Taken q p s) due b)
 taken-nowhere q p s due b h first r =

@@ -1,11 +1,11 @@
--- Packets of a queue: how often each stands there, and what becomes of them where one comes or goes.
+-- Packets of a queue: how often each is there, and what becomes of them where one comes or goes.
 use Rattle.std.proofs.Common.{◌≡◌, ℕ, ℤ, ◌+◌, ◌<◌, ◌≤◌, ◌||◌, Bool, true, false, cond, eqb, leb, List, [], ◌∷◌, ◌++◌, drop, refl, arith}
 use Rattle.std.specs.List.{list_any}
 use Rattle.word_store.specs.Count.{hit}
 use Rattle.kernel_lists.specs.LinkedList.Places.{insert_after, without_first}
 use Rattle.tripos_machine.specs.EventHistory.Ledger.{Entry, arrived, clock, count_of, is_on_queue, same_queue}
 
--- ---- a packet stands there where it is counted
+-- ---- a packet is there where it is counted
 
 pub none-on-queue : (p : ℕ) (es : List Entry) → count_of p es ≡ 0 → is_on_queue p es ≡ false
 none-on-queue p [] z = refl

@@ -57,7 +57,7 @@ module _ (s : Session) (h : HasKernel s) where
 
 -- ---- the lines
 
--- the store of the standing holds its lists
+-- the store holds its lists
 abbrev Holds : StoreWithLists → Type 0
 Holds k = HoldsLists k.words k.lists
 

@@ -50,7 +50,7 @@ taskwait-moves due l v there = on (queue_of (Work l.running) l) refl
 
 -- ---- the call that sends a packet
 
--- what nobody owns stands on no queue
+-- what nobody owns is on no queue
 pub unowned-nowhere : (l : Lists) → AreValid l → (a : ℕ) → owners a (owned l) ≡ 0 → IsNowhere a (ledger_of l)
 unowned-nowhere l v a none q = on (is_on_queue a (ledger_of l q)) refl
   where
@@ -110,7 +110,7 @@ qpkt-moves due s l p v is = refused-moves due l (qpkt_tests s l p) (sent_to (get
 
 -- ---- the call that takes a packet back
 
--- a search finds what stands at the place of its number
+-- a search finds what is at the place of its number
 pub record IsSearch (l : Lists) (w : Search) : Type 0 where
   pub number : number_of w.place ≡ signed w.number
   pub named : IsNamed w.place

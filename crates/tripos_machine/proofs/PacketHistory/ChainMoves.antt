@@ -13,7 +13,7 @@ use Rattle.kernel_model.specs.KernelRecord.Task.{Task, task_id}
 use Rattle.word_store.proofs.Elements.{find-passes}
 use Rattle.kernel_machine.proofs.KernelSteps.FaultRule.{no-work}
 
--- ---- the chain as queues see it: a task may stand before all others
+-- ---- the chain as queues see it: a task may be before all others
 
 -- two tasks with other numbers
 swapped : (n : ℕ) (t u : Task) → eqb u.id t.id ≡ false → (w : List QueuedPacket) → cond (eqb u.id n) u.queue (cond (eqb t.id n) t.queue w) ≡ cond (eqb t.id n) t.queue (cond (eqb u.id n) u.queue w)

@@ -1,4 +1,4 @@
--- A packet that is on no queue of valid lists stands nowhere in their ledger.
+-- A packet that is on no queue of valid lists is nowhere in their ledger.
 use Rattle.std.proofs.Common.{◌≡◌, ℕ, ◌||◌, Bool, true, false, eqb, List, [], ◌∷◌, map, refl, sym, ap, ◌∙◌}
 use Rattle.std.specs.List.{list_any}
 use Rattle.std.proofs.lemmas.Bool.{eq-eqb, eqb-true, false≢true}
@@ -33,7 +33,7 @@ any-there Keyboard a ps some = any-turned entry_of (λ p. refl) a ps some
 any-there Output a ps some = any-turned entry_of (λ p. refl) a ps some
 any-there Pending a ps some = any-turned entry_of (λ p. refl) a ps some
 
--- what is on no queue stands nowhere
+-- what is on no queue is nowhere
 pub unqueued-nowhere : (l : Lists) → AreValid l → (a : ℕ) → is_queued a l ≡ false → IsNowhere a (ledger_of l)
 unqueued-nowhere l v a none q = on (is_on_queue a (ledger_of l q)) refl
   where

@@ -29,7 +29,7 @@ pub record IsKept (d : Disc) : Type 0 where
   pub kept : AreKept names area used unused places
   pub is : disc_in names area.bytes used places ≡ d
 
--- the file of a name stands at this place
+-- the file of a name is at this place
 abbrev slot_of : List File → List ℕ → ℕ
 slot_of [] name = 0
 slot_of (f ∷ fs) name = cond (has_name name f) 0 (suc (slot_of fs name))

@@ -149,7 +149,7 @@ any-entry : (f : Entry → Bool) (g : QueuedPacket → Bool) (make : QueuedPacke
 any-entry f g make same [] = refl
 any-entry f g make same (p ∷ ps) = λ i. same p i || any-entry f g make same ps i
 
--- a packet stands among the entries of a place where it stands there
+-- a packet is among the entries of a place where it is there
 pub any-at : (at : Place) (a : ℕ) (ps : List QueuedPacket) → list_any (λ e. eqb a e.packet) (entries_at at ps) ≡ list_any (λ q. eqb a q.address) ps
 any-at (Work id) a ps = any-entry (λ e. eqb a e.packet) (λ q. eqb a q.address) entry_of (λ p. refl) ps
 any-at Clock a ps = any-entry (λ e. eqb a e.packet) (λ q. eqb a q.address) clock_entry (λ p. refl) ps

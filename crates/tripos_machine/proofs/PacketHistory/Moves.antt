@@ -100,7 +100,7 @@ module _ (due : KernelEvent → ℕ) where
     pub move-taken : (ps : List QueuedPacket) → HasPlace l at → IsNamed at → queue_of at l ≡ p ∷ ps → Moves due l (Taken (number_of at) p.address (signed p.sender) ∷ []) (with_queue at ps l)
     move-taken ps has named is = (is-first ps named is, after-taken ps (due (Taken (number_of at) p.address (signed p.sender))) has named is)
 
-    -- and stands nowhere then
+    -- and is nowhere then
     pub nowhere-then : (ps : List QueuedPacket) → AreOnce (ledger_of l) → HasPlace l at → IsNamed at → queue_of at l ≡ p ∷ ps → IsNowhere p.address (ledger_of (with_queue at ps l))
     nowhere-then ps once has named is =
         subst (IsNowhere p.address) (after-taken ps 0 has named is) (taken-nowhere (number_of at) p.address (signed p.sender) 0 (ledger_of l) once (is-first ps named is))

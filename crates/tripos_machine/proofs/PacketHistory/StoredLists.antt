@@ -1,4 +1,4 @@
--- Valid lists stand in a store, and the ticks may be another number.
+-- Valid lists are in a store, and the ticks may be another number.
 use Rattle.std.proofs.Common.{◌≡◌, ℕ, List, length, replicate, set, refl, ◌∙◌, arith}
 use Rattle.std.proofs.lemmas.List.{length-replicate}
 use Rattle.kernel_lists.specs.OwnedWords.Owned.{written}

@@ -72,7 +72,7 @@ module _ (due : KernelEvent → ℕ) (from : ℤ) (s : List ℕ) (l : Lists) (h 
   has : HasPlace l at
   has = place-there l at [] p ps h.valid is
 
-  -- it is taken, and stands nowhere then
+  -- it is taken, and is nowhere then
   pub taken-moves : MovesInTurn due from l (Taken z p.address (signed p.sender) ∷ []) m
   taken-moves =
       record {

@@ -1,11 +1,11 @@
-// Words by their addresses. What stands at an address is a row of words, numbered from 0.
+// Words by their addresses. What is at an address is a row of words, numbered from 0.
 ghost use Rattle.std.specs.Prelude.{◌≡◌, ◌+◌, ◌≤◌, length, slice_index, slice_set};
 ghost use Rattle.word_store.specs.Row.{with_words};
 
 use super::Store;
 
 impl Store {
-    /// The address of word i of what stands at address a. It is inside, or directly after the last word.
+    /// The address of word i of what is at address a. It is inside, or directly after the last word.
     pub fn address_of(&self, a: u32, i: u32) -> u32
         requires { a + i ≤ length self.now }
         ensures { result ≡ a + i }
@@ -22,7 +22,7 @@ pub fn word(store: &Store, a: u32) -> u32
     store.get(a).unwrap_or(0)
 }
 
-/// Word i of what stands at address a, or 0 where it is outside.
+/// Word i of what is at address a, or 0 where it is outside.
 pub fn word_at(store: &Store, a: u32, i: u32) -> u32
     ensures { result ≡ slice_index store.now (a + i) }
 {
@@ -33,7 +33,7 @@ pub fn word_at(store: &Store, a: u32, i: u32) -> u32
         .unwrap_or(0)
 }
 
-/// Sets word i of what stands at address a. Where it is outside, nothing changes.
+/// Sets word i of what is at address a. Where it is outside, nothing changes.
 pub fn set_word_at(store: &mut Store, a: u32, i: u32, w: u32)
     ensures { store.new ≡ slice_set store.old (a + i) w }
 {
