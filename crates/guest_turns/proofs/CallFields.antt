@@ -13,7 +13,7 @@ use Rattle.kernel_model.specs.KernelRecord.Task.{Task}
 use Rattle.kernel_model.specs.KernelRecord.ValidQueues.{Place}
 use Rattle.kernel_model.specs.KernelRecord.ValidQueues.Place.{Work}
 use Rattle.kernel_calls.specs.CallAnswers.Guests.{guest_tests}
-use Rattle.kernel_calls.specs.CallAnswers.Made.{Made, by_refusal, done, unless_refused}
+use Rattle.kernel_calls.specs.CallAnswers.CallChange.{CallChange, by_refusal, done, unless_refused}
 use Rattle.kernel_calls.specs.CallAnswers.Refusals.{first_refusal}
 use Rattle.kernel_calls.specs.BlockCalls.FreeStore.{data_taken, with_taken}
 use Rattle.kernel_calls.specs.BlockCalls.Freevec.{freevec, freevec_tests, with_given}
@@ -38,9 +38,9 @@ use Rattle.kernel_calls.specs.CoroutineCalls.CoWait.{wait_tests}
 use Rattle.kernel_calls.specs.CoroutineCalls.CreateCo.{create_tests, created, createco, with_created as with_new_coroutine}
 use Rattle.kernel_calls.specs.CoroutineCalls.DeleteCo.{delete_tests, deleteco, with_deleted, with_deleted_at}
 use Rattle.kernel_calls.specs.CoroutineCalls.ResumeCo.{resume_tests, resumed_itself}
-use Rattle.kernel_calls.specs.CoroutineCalls.Switched as switches
-use Rattle.kernel_calls.specs.CoroutineCalls.Switched.{Switched, switched}
-use Rattle.kernel_calls.specs.Calls.{Called, answered, made, of_made, of_switched, of_wait, past_call, made_if_read}
+use Rattle.kernel_calls.specs.CoroutineCalls.SwitchChange as switches
+use Rattle.kernel_calls.specs.CoroutineCalls.SwitchChange.{SwitchChange, switched}
+use Rattle.kernel_calls.specs.Calls.{CallTurn, answered, made, of_made, of_switched, of_wait, past_call, made_if_read}
 use Rattle.kernel_calls.specs.declared.call_numbers.CallOutcome.{CallOutcome}
 use Rattle.kernel_calls.specs.declared.call_numbers.CallOutcome.TheVariants.{Done, Outside as OutsideStore, Quit as Quits, Unknown, Waits}
 use Rattle.kernel_calls.specs.declared.call_numbers.KernelCall.{KernelCall}
@@ -57,7 +57,7 @@ IsMadeEnd Unknown = ⊥
 IsMadeEnd (OutsideStore a) = ⊥
 
 -- the lists and the C that a call leaves
-pub record Keeps (nums : Numbers) (byte : ℕ) (c : Called) : Type 0 where
+pub record Keeps (nums : Numbers) (byte : ℕ) (c : CallTurn) : Type 0 where
   pub lists : RunsIn nums c.lists
   pub same : c.regs.c ≡ byte
 
@@ -66,13 +66,13 @@ answered-byte r (Ok w) = refl
 answered-byte r (Err code) = refl
 
 -- what another coroutine goes on with
-pub record KeepsSwitched (nums : Numbers) (byte : ℕ) (m : Switched) : Type 0 where
+pub record KeepsSwitched (nums : Numbers) (byte : ℕ) (m : SwitchChange) : Type 0 where
   pub lists : RunsIn nums m.lists
   pub same : m.regs.c ≡ byte
 
 module _ (nums : Numbers) (l : Lists) (h : RunsIn nums l) where
   -- refused or not
-  refused-runs : (o : Option ℕ) (m : Made) → RunsIn nums m.lists → RunsIn nums (by_refusal o l m).lists
+  refused-runs : (o : Option ℕ) (m : CallChange) → RunsIn nums m.lists → RunsIn nums (by_refusal o l m).lists
   refused-runs None m is = is
   refused-runs (Some code) m is = h
 
@@ -160,7 +160,7 @@ module _ (nums : Numbers) (l : Lists) (h : RunsIn nums l) where
       refused-runs (first_refusal (delete_tests l c)) (done (with_deleted_at c l))
       (record { numbers = h.numbers; alone = runs-changed nums.running l.running (with_changed (with_deleted c)) (λ t one. one) l.tasks h.alone })
 
-  refused-switch : (o : Option ℕ) (r : Regs) (m : Switched) → KeepsSwitched nums r.c m → KeepsSwitched nums r.c (switches.by_refusal o l r m)
+  refused-switch : (o : Option ℕ) (r : Regs) (m : SwitchChange) → KeepsSwitched nums r.c m → KeepsSwitched nums r.c (switches.by_refusal o l r m)
   refused-switch None r m is = is
   refused-switch (Some code) r m is = record { lists = h; same = refl }
 
@@ -170,14 +170,14 @@ module _ (nums : Numbers) (l : Lists) (h : RunsIn nums l) where
   -- ---- the calls
 
   -- the registers answer
-  made-keeps : (r : Regs) (m : Made) → RunsIn nums m.lists → Keeps nums r.c (of_made r m)
+  made-keeps : (r : Regs) (m : CallChange) → RunsIn nums m.lists → Keeps nums r.c (of_made r m)
   made-keeps r m is = record { lists = is; same = answered-byte r m.answer }
 
-  wait-keeps : (r : Regs) (ps : List QueuedPacket) (m : Made) → RunsIn nums m.lists → Keeps nums r.c (of_wait r ps m)
+  wait-keeps : (r : Regs) (ps : List QueuedPacket) (m : CallChange) → RunsIn nums m.lists → Keeps nums r.c (of_wait r ps m)
   wait-keeps r [] m is = record { lists = is; same = refl }
   wait-keeps r (p ∷ ps) m is = made-keeps r m is
 
-  go_on-keeps : (r : Regs) (m : Switched) → KeepsSwitched nums r.c m → Keeps nums r.c (of_switched m)
+  go_on-keeps : (r : Regs) (m : SwitchChange) → KeepsSwitched nums r.c m → Keeps nums r.c (of_switched m)
   go_on-keeps r m is = record { lists = is.lists; same = on m.answer }
     where
       on : (a : Result (Unit {0}) ℕ) → (of_switched (record m { answer = a })).regs.c ≡ r.c
@@ -206,15 +206,15 @@ module _ (nums : Numbers) (l : Lists) (h : RunsIn nums l) where
   call-keeps s r (CreateCo entry u) = made-keeps r (createco l entry u) (createco-runs entry u)
   call-keeps s r (DeleteCo c) = made-keeps r (deleteco l c) (deleteco-runs c)
   call-keeps s r (CallCo c v) =
-      let m : Switched = switched (with_called c r.p r.pc) v l r in
+      let m : SwitchChange = switched (with_called c r.p r.pc) v l r in
       let tests = first_refusal (idle_tests c (coroutines_of_caller l)) in
       go_on-keeps r (switches.by_refusal tests l r m) (refused-switch tests r m (switched-keeps (with_called c r.p r.pc) v r))
   call-keeps s r (ResumeCo c v) =
-      let m : Switched = cond (eqb (current_of (coroutines_of_caller l)) c) (resumed_itself v l r) (switched (with_resumed c r.p r.pc) v l r) in
+      let m : SwitchChange = cond (eqb (current_of (coroutines_of_caller l)) c) (resumed_itself v l r) (switched (with_resumed c r.p r.pc) v l r) in
       let tests = first_refusal (resume_tests c (coroutines_of_caller l)) in
       go_on-keeps r (switches.by_refusal tests l r m) (refused-switch tests r m (resume-keeps r c v (eqb (current_of (coroutines_of_caller l)) c)))
   call-keeps s r (CoWait v) =
-      let m : Switched = switched (with_waiting r.p r.pc) v l r in
+      let m : SwitchChange = switched (with_waiting r.p r.pc) v l r in
       let tests = first_refusal (wait_tests (coroutines_of_caller l)) in
       go_on-keeps r (switches.by_refusal tests l r m) (refused-switch tests r m (switched-keeps (with_waiting r.p r.pc) v r))
   call-keeps s r (Wrch ch) = record { lists = h; same = refl }
@@ -227,7 +227,7 @@ module _ (nums : Numbers) (l : Lists) (h : RunsIn nums l) where
 
 -- ---- how calls end
 
-wait-ends : (r : Regs) (ps : List QueuedPacket) (m : Made) → IsMadeEnd (of_wait r ps m).outcome
+wait-ends : (r : Regs) (ps : List QueuedPacket) (m : CallChange) → IsMadeEnd (of_wait r ps m).outcome
 wait-ends r [] m = tt
 wait-ends r (p ∷ ps) m = tt
 

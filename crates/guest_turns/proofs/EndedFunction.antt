@@ -26,7 +26,7 @@ use Rattle.kernel_calls.proofs.CallAnswers.GuestTask.{GuestFacts, guest-facts}
 use Rattle.kernel_calls.proofs.PacketCalls.CallerTask.{caller-runs, caller-state}
 use Rattle.kernel_calls.specs.CoroutineCalls.CallersCoroutines.{coroutines_of_caller}
 use Rattle.kernel_calls.specs.CoroutineCalls.CoWait.{IsWithin, ended}
-use Rattle.kernel_calls.specs.CoroutineCalls.Switched.{IsSwitched}
+use Rattle.kernel_calls.specs.CoroutineCalls.SwitchChange.{IsSwitched}
 use Rattle.kernel_calls.proofs.CoroutineCalls.CallersTask.{callers-found, callers-held}
 use Rattle.guest_turns.specs.GuestTurn.{died, dies, returned}
 

@@ -20,7 +20,7 @@ use Rattle.kernel_calls.specs.CoroutineCalls.CoWait.{ended, with_ended}
 use Rattle.kernel_calls.specs.Calls.{kernel_call}
 use Rattle.kernel_calls.specs.CallNumbers.{call_of}
 use Rattle.guest_turns.specs.Guarded.{is_owned}
-use Rattle.guest_turns.specs.GuestTurn.{Numbers, Turned, after_instruction, died, dies, numbers_of, turn_without_reporter}
+use Rattle.guest_turns.specs.GuestTurn.{GuestTurn, Numbers, after_instruction, died, dies, numbers_of, turn_without_reporter}
 use Rattle.kernel_model.specs.KernelRecord.Running.{RunsAlone, RunsAs}
 use Rattle.guest_turns.proofs.CallFields.{Keeps, KeepsSwitched, read-keeps, switched-keeps}
 use Rattle.guest_turns.proofs.RunningField.{RunsIn, one-runs}
@@ -42,7 +42,7 @@ module _ (marks : ℕ → Bool) (s : List ℕ) (r : Regs) (byte : r.c < 256) whe
 -- ---- the turn
 
 -- the lists that a turn leaves, and its registers where C was a byte
-pub record Fits (nums : Numbers) (r : Regs) (m : Turned) : Type 0 where
+pub record Fits (nums : Numbers) (r : Regs) (m : GuestTurn) : Type 0 where
   pub lists : RunsIn nums m.lists
   pub byte : r.c < 256 → m.regs.c < 256
 

@@ -10,9 +10,9 @@ use Rattle.kernel_model.specs.KernelRecord.HoldsLists.{HoldsLists}
 use Rattle.kernel_model.specs.KernelRecord.Lists.{Lists}
 use Rattle.kernel_model.proofs.KernelRecord.ChangedLists.{changed-none, knows-same}
 use Rattle.kernel_model.proofs.KernelRecord.NotedInTurn.{notes-none}
-use Rattle.kernel_calls.specs.CoroutineCalls.Switched.{IsSwitched, Switched}
+use Rattle.kernel_calls.specs.CoroutineCalls.SwitchChange.{IsSwitched, SwitchChange}
 use Rattle.kernel_calls.specs.CallAnswers.Outside.{Outside}
-use Rattle.kernel_calls.specs.Calls.{Called, IsCalled}
+use Rattle.kernel_calls.specs.Calls.{CallTurn, IsCalled}
 use Rattle.kernel_calls.specs.declared.call_numbers.CallOutcome.{CallOutcome}
 use Rattle.guest_turns.specs.Guarded.{is_owned}
 use Rattle.guest_turns.proofs.MarkedWords.{keeps-marked}
@@ -50,7 +50,7 @@ module _ (t : List ℕ) (after : Regs) (tells : List ℕ → Type 0) (old : Outs
   }
 
   -- a function has returned
-  pub turned-returned : (s : List ℕ) (l : Lists) (m : Switched) → IsSwitched s t l after (Ok tt) m → Knows tells l → IsTurned t after tells old old Goes (goes_on s m)
+  pub turned-returned : (s : List ℕ) (l : Lists) (m : SwitchChange) → IsSwitched s t l after (Ok tt) m → Knows tells l → IsTurned t after tells old old Goes (goes_on s m)
   turned-returned s l m is knows = record {
     lists = is.lists;
     regs = is.regs;
@@ -61,7 +61,7 @@ module _ (t : List ℕ) (after : Regs) (tells : List ℕ → Type 0) (old : Outs
   }
 
   -- a call was made
-  pub turned-called : (s : List ℕ) (place : ℕ) (new : Outside) (outcome : CallOutcome) (result : TurnEnd) (c : Called) → IsCalled s t after tells old new outcome c
+  pub turned-called : (s : List ℕ) (place : ℕ) (new : Outside) (outcome : CallOutcome) (result : TurnEnd) (c : CallTurn) → IsCalled s t after tells old new outcome c
       → result ≡ end_of_call place outcome → IsTurned t after tells old new result (called s place c)
   turned-called s place new outcome result c is e = record {
     lists = is.lists;

@@ -17,34 +17,35 @@ use Rattle.kernel_model.specs.KernelRecord.Task.{Task}
 use Rattle.kernel_model.specs.KernelRecord.ValidTasks.{dead}
 use Rattle.kernel_calls.specs.CoroutineCalls.CallersCoroutines.{coroutines_of_caller}
 use Rattle.kernel_calls.specs.CoroutineCalls.CoWait.{ended}
-use Rattle.kernel_calls.specs.CoroutineCalls.Switched.{Switched}
+use Rattle.kernel_calls.specs.CoroutineCalls.SwitchChange.{SwitchChange}
 use Rattle.kernel_calls.specs.CallAnswers.Outside.{Outside}
-use Rattle.kernel_calls.specs.Calls.{Called, kernel_call}
+use Rattle.kernel_calls.specs.Calls.{CallTurn, kernel_call}
 use Rattle.kernel_calls.specs.declared.call_numbers.CallOutcome.{CallOutcome}
 use Rattle.kernel_calls.specs.declared.call_numbers.CallOutcome.TheVariants.{Done, Outside as OutsideStore, Quit, Unknown, Waits}
 use Rattle.guest_turns.specs.Guarded.{is_owned}
 use Rattle.guest_turns.specs.declared.turns.TurnEnd.{TurnEnd}
 use Rattle.guest_turns.specs.declared.turns.TurnEnd.TheVariants.{Faults, Goes, Quits}
 
--- What a turn leaves.
-pub record Turned : Type 0 where
+-- What a guest's turn leaves: the words that its instruction left, the parts of a KernelChange of these, the registers, the bytes that
+-- went to the console, and how the turn ended.
+pub record GuestTurn : Type 0 where
   -- the words that its instruction left
   pub words : List ℕ
   -- the lists
   pub lists : Lists
   -- the plain words that were written over those words
   pub plain : Pairs
+  -- the events, in their order
+  pub events : List KernelEvent
   -- the registers
   pub regs : Regs
   -- the bytes that went to the console
   pub bytes : List ℕ
-  -- the events, in their order
-  pub events : List KernelEvent
   -- how it ended
   pub ends : TurnEnd
 
 -- the turn ends so, and the lists stay
-abbrev pub ended_with : TurnEnd → List ℕ → Lists → Regs → Turned
+abbrev pub ended_with : TurnEnd → List ℕ → Lists → Regs → GuestTurn
 ended_with ends s l r = record { words = s; lists = l; plain = []; regs = r; bytes = []; events = []; ends = ends }
 
 -- ---- a call
@@ -58,7 +59,7 @@ end_of_call place Unknown = Faults (fault 7 place)
 end_of_call place (OutsideStore a) = Faults (fault 3 a)
 
 -- the turn of a call, whose SYS is at the place
-abbrev pub called : List ℕ → ℕ → Called → Turned
+abbrev pub called : List ℕ → ℕ → CallTurn → GuestTurn
 called s place c = record {
   words = s;
   lists = c.lists;
@@ -76,34 +77,34 @@ abbrev pub died : Task → Task
 died t = record t { field = dead }
 
 -- the running task is dead, and nothing else changes
-abbrev pub dies : Lists → Regs → Switched
+abbrev pub dies : Lists → Regs → SwitchChange
 dies l r = record { answer = Ok tt; lists = with_task l.running died l; regs = r }
 
 -- In its root the task dies; in a coroutine the parent goes on.
-abbrev pub returned : Lists → Regs → Switched
+abbrev pub returned : Lists → Regs → SwitchChange
 returned l r = if current_of (coroutines_of_caller l) == 0 then dies l r else ended l r
 
 -- what a turn leaves where another coroutine of the task goes on, or the task has died: no word is written besides those of lists
-abbrev pub goes_on : List ℕ → Switched → Turned
+abbrev pub goes_on : List ℕ → SwitchChange → GuestTurn
 goes_on s m = record { words = s; lists = m.lists; plain = []; regs = m.regs; bytes = []; events = []; ends = Goes }
 
 -- ---- the turn
 
 -- where an instruction left these words and registers, and ended so; these are as they were but where it was executed
-abbrev pub after_instruction : Lists → List ℕ → Regs → Outcome → Turned
+abbrev pub after_instruction : Lists → List ℕ → Regs → Outcome → GuestTurn
 after_instruction l s r Next = ended_with Goes s l r
 after_instruction l s r Sys = called s r.pc (kernel_call s l r)
 after_instruction l s r Returned = goes_on s (returned l r)
 after_instruction l s r (Faulted f) = ended_with (Faults f) s l r
 
 -- The turn in a machine without a task that reports faults: each fault stops it.
-unfoldable pub turn_without_reporter : List ℕ → Lists → Regs → Turned
+unfoldable pub turn_without_reporter : List ℕ → Lists → Regs → GuestTurn
 turn_without_reporter s l r = let x = instruction (is_owned l) s r in after_instruction l x.words x.regs x.outcome
 
 -- ---- what the code leaves
 
 -- What the code leaves is what the turn leaves. The store is t.
-pub record IsTurned (t : List ℕ) (after : Regs) (tells : List ℕ → Type 0) (old new : Outside) (result : TurnEnd) (m : Turned) : Type 0 where
+pub record IsTurned (t : List ℕ) (after : Regs) (tells : List ℕ → Type 0) (old new : Outside) (result : TurnEnd) (m : GuestTurn) : Type 0 where
   -- the store holds the lists, and of the other words the plain ones alone have changed since the instruction
   pub lists : IsChanged m.words t m.lists m.plain
   -- the registers
@@ -139,7 +140,7 @@ abbrev pub numbers_of : Lists → Numbers
 numbers_of l = record { running = l.running; period = l.period; tick = l.tick; version = l.version; residents = l.residents; size = l.size }
 
 -- nothing has changed, shown or noted
-pub record IsUntouched (s : List ℕ) (l : Lists) (r : Regs) (m : Turned) : Type 0 where
+pub record IsUntouched (s : List ℕ) (l : Lists) (r : Regs) (m : GuestTurn) : Type 0 where
   -- the words of the store
   pub words : m.words ≡ s
   -- the lists

@@ -3,7 +3,7 @@ ghost use Rattle.std.specs.Prelude.{◌≡◌, ◌<◌, Ok, length};
 ghost use Rattle.kernel_model.specs.KernelRecord.HoldsLists.{HoldsLists};
 ghost use Rattle.kernel_model.specs.KernelRecord.Lists.{Lists};
 ghost use Rattle.kernel_calls.specs.CallAnswers.Callers.{HasCaller};
-ghost use Rattle.kernel_calls.specs.CoroutineCalls.Switched.{IsSwitched};
+ghost use Rattle.kernel_calls.specs.CoroutineCalls.SwitchChange.{IsSwitched};
 ghost use Rattle.kernel_calls.specs.CallAnswers.Outside.{outside};
 ghost use Rattle.kernel_calls.specs.Calls.{kernel_call};
 ghost use Rattle.guest_turns.specs.GuestTurn.{IsTurned, called, end_of_call, returned, turn_without_reporter};

@@ -18,7 +18,7 @@ use Rattle.session_text.specs.declared.sessions.LineForm.TheVariants.{Code, File
 use Rattle.kernel_model.specs.KernelRecord.Lists.{Lists, has_task}
 use Rattle.kernel_model.specs.KernelRecord.Task.{Task as TaskRecord, is_guest_id}
 use Rattle.kernel_model.specs.KernelRecord.Versions.{highest_id_of, most_modules_of}
-use Rattle.kernel_calls.specs.CallAnswers.Made.{Made, by_refusal}
+use Rattle.kernel_calls.specs.CallAnswers.CallChange.{CallChange, by_refusal}
 use Rattle.kernel_calls.specs.CallAnswers.Guests.{IsGuestOf}
 use Rattle.kernel_calls.specs.CallAnswers.Refusals.{first_refusal}
 use Rattle.kernel_calls.proofs.CallAnswers.Refusals.{high-guest}
@@ -33,7 +33,7 @@ use Rattle.kernel_model.specs.KernelRecord.StoreWithLists.{StoreWithLists, left_
 abbrev pub Keeps : Lists → Lists → Type 0
 Keeps l m = (m.version ≡ l.version) × (m.tasks ≡ l.tasks)
 
-refused-keeps : (o : Option ℕ) (l : Lists) (m : Made) → Keeps l m.lists → Keeps l (by_refusal o l m).lists
+refused-keeps : (o : Option ℕ) (l : Lists) (m : CallChange) → Keeps l m.lists → Keeps l (by_refusal o l m).lists
 refused-keeps None l m keeps = keeps
 refused-keeps (Some code) l m keeps = (refl, refl)
 
@@ -96,7 +96,7 @@ module _ (s : List ℕ) (l : Lists) (id : ℕ) (modules : List ℕ) (u pri maker
   abbrev number : ℕ
   number = unwrap_or (number_of l id) 0
 
-  abbrev made : Made
+  abbrev made : CallChange
   made = with_created s l (new_task l number modules u pri maker)
 
   pub created : (n : ℕ) → (create_task s l id modules u pri maker).answer ≡ Ok n → IsThere l id n (create_task s l id modules u pri maker).lists

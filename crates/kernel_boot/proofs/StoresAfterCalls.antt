@@ -22,7 +22,7 @@ use Rattle.kernel_boot.specs.BootFiles.{at_line}
 use Rattle.kernel_boot.proofs.BegunTask.{begun-same}
 use Rattle.kernel_boot.proofs.StartedTasks.{form-keeps}
 use Rattle.kernel_model.specs.KernelRecord.Owned.{owned}
-use Rattle.kernel_calls.specs.CallAnswers.Made.{IsMade, Made, refused}
+use Rattle.kernel_calls.specs.CallAnswers.CallChange.{CallChange, IsMade, refused}
 use Rattle.kernel_calls.specs.ModuleCalls.LoadModule.{load_module}
 use Rattle.kernel_boot.specs.BootTasks.{IsLeft, after_call, begin_it, create_it, load_named, load_names, load_text, on_answer, start_form, start_task, start_tasks}
 use Rattle.kernel_model.specs.KernelRecord.StoreWithLists.{StoreWithLists, left_with, store_with_lists}
@@ -52,7 +52,7 @@ module _ (s t : List ℕ) (l : Lists) (plain : Pairs) (ch : IsChanged s t l plai
   pub left-is : t ≡ words
   left-is = ext_get_or 0 t words (ch.size ∙ sym long) (λ a lt. word a)
 
-module _ (s t : List ℕ) (tells : List ℕ → Type 0) (r : Result ℕ ℕ) (m : Made) (made : IsMade s t tells r m) where
+module _ (s t : List ℕ) (tells : List ℕ → Type 0) (r : Result ℕ ℕ) (m : CallChange) (made : IsMade s t tells r m) where
   -- what follows a call follows its answer, of the store that it leaves
   pub call-then : {A : Type 0} → (next : ℕ → StoreWithLists → Result A ℕ) → after_call s m next ≡ on_answer r (store_with_lists t m.lists) next
   call-then next =

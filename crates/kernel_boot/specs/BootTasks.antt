@@ -14,7 +14,7 @@ use Rattle.kernel_model.specs.KernelRecord.ChangedStore.{HasKeeper}
 use Rattle.kernel_model.specs.KernelRecord.Lists.{Lists, has_task}
 use Rattle.kernel_model.specs.KernelRecord.StoreWithLists.{StoreWithLists, left_with, store_with_lists}
 use Rattle.kernel_model.specs.KernelRecord.Versions.{highest_id_of, most_modules_of}
-use Rattle.kernel_calls.specs.CallAnswers.Made.{Made, refused}
+use Rattle.kernel_calls.specs.CallAnswers.CallChange.{CallChange, refused}
 use Rattle.kernel_calls.specs.ModuleCalls.LoadModule.{load_module}
 use Rattle.kernel_calls.specs.TaskCalls.CreateTask.{create_task}
 use Rattle.ram_disc.specs.declared.codes.TheConstants.{NO_FILE}
@@ -30,23 +30,23 @@ on_answer (Ok n) k next = next n k
 on_answer (Err code) k next = Err code
 
 -- what follows a call, with its answer, and with the store and the lists that it left
-abbrev pub after_call : {A : Type 0} → List ℕ → Made → (ℕ → StoreWithLists → Result A ℕ) → Result A ℕ
+abbrev pub after_call : {A : Type 0} → List ℕ → CallChange → (ℕ → StoreWithLists → Result A ℕ) → Result A ℕ
 after_call words made next = on_answer made.answer (left_with words made.lists made.plain) next
 
 -- ---- the modules of a task
 
 -- the module of a text is loaded; where the text is none, the code is 60 more than that of the text
-abbrev pub load_text : Lists → Result Module Refusal → Made
+abbrev pub load_text : Lists → Result Module Refusal → CallChange
 load_text l (Ok m) = load_module l m.hunks
 load_text l (Err refusal) = refused l (60 + refusal.code)
 
 -- there is such a file (code 41)
-abbrev pub load_bytes : Lists → Option (List ℕ) → Made
+abbrev pub load_bytes : Lists → Option (List ℕ) → CallChange
 load_bytes l None = refused l NO_FILE
 load_bytes l (Some bytes) = load_text l (module_of bytes)
 
 -- the module in the file of this name is loaded
-abbrev pub load_named : Disc → List ℕ → Lists → Made
+abbrev pub load_named : Disc → List ℕ → Lists → CallChange
 load_named d name l = load_bytes l (option_map (λ f. f.bytes) (file_named d name))
 
 -- each name in turn loads a module of its own, also one that was loaded before: the modules so far and those of the names

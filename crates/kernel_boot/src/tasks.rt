@@ -1,7 +1,7 @@
 // The tasks of a session.
 ghost use Rattle.std.specs.Prelude.{◌≡◌, ◌≤◌, length, []};
 ghost use Rattle.kernel_model.specs.KernelRecord.Lists.{Lists};
-ghost use Rattle.kernel_calls.specs.CallAnswers.Made.{IsMade};
+ghost use Rattle.kernel_calls.specs.CallAnswers.CallChange.{IsMade};
 ghost use Rattle.kernel_boot.specs.BootTasks.{AreBootLines, AreLoaded, IsBootForm, IsLeft, MayStart, load_named, load_names, start_form, start_task, start_tasks};
 ghost use Rattle.kernel_model.specs.KernelRecord.StoreWithLists.{store_with_lists};
 ghost use Rattle.kernel_model.specs.KernelRecord.ChangedStore.{HasKeeper};

@@ -11,8 +11,8 @@ use Rattle.kernel_model.specs.KernelRecord.NotedEvents.{NotesAll}
 use Rattle.kernel_model.specs.KernelRecord.Owned.{owned}
 use Rattle.kernel_model.proofs.KernelRecord.ChangedLists.{changed-none, knows-same}
 use Rattle.kernel_model.proofs.KernelRecord.NotedInTurn.{notes-none}
-use Rattle.kernel_calls.specs.CallAnswers.Made.{IsMade, Leaves, Made}
-use Rattle.kernel_calls.specs.CoroutineCalls.Switched.{IsSwitched, Switched}
+use Rattle.kernel_calls.specs.CallAnswers.CallChange.{CallChange, IsMade, Leaves}
+use Rattle.kernel_calls.specs.CoroutineCalls.SwitchChange.{IsSwitched, SwitchChange}
 use Rattle.kernel_calls.specs.PacketCalls.TaskWait.{answer_of_wait, first_of_queue}
 use Rattle.kernel_calls.specs.CallAnswers.Outside.{Outside}
 use Rattle.kernel_calls.specs.Calls.{IsCalled, answered, ended_with, of_byte, of_made, of_switched, of_wait, regs_of_switch}
@@ -20,13 +20,13 @@ use Rattle.kernel_calls.specs.declared.call_numbers.CallOutcome.{CallOutcome}
 use Rattle.kernel_calls.specs.declared.call_numbers.CallOutcome.TheVariants.{Done, Waits}
 
 -- a call that leaves the same words owned tells no keeper
-pub made-same : (s t : List ℕ) (tells : List ℕ → Type 0) (l : Lists) (answer : Result ℕ ℕ) (m : Made) → Leaves s t answer m → Knows tells l
+pub made-same : (s t : List ℕ) (tells : List ℕ → Type 0) (l : Lists) (answer : Result ℕ ℕ) (m : CallChange) → Leaves s t answer m → Knows tells l
     → ((a : ℕ) → owners a (owned m.lists) ≡ owners a (owned l)) → IsMade s t tells answer m
 made-same s t tells l answer m leaves knows same = record { leaves = leaves; knows = knows-same tells l m.lists same knows }
 
 module _ (s t : List ℕ) (tells : List ℕ → Type 0) (r after : Regs) (before : Outside) (outcome : CallOutcome) where
   -- it notes its events
-  pub called-noting : (answer : Result ℕ ℕ) (m : Made) (now : Outside) → IsMade s t tells answer m → after ≡ answered r answer → outcome ≡ Done
+  pub called-noting : (answer : Result ℕ ℕ) (m : CallChange) (now : Outside) → IsMade s t tells answer m → after ≡ answered r answer → outcome ≡ Done
       → now.shown ≡ before.shown → NotesAll before.noted now.noted before.failed now.failed m.events → IsCalled s t after tells before now outcome (of_made r m)
   called-noting answer m now made regs ends shown notes = record {
     lists = made.leaves.lists;
@@ -38,13 +38,13 @@ module _ (s t : List ℕ) (tells : List ℕ → Type 0) (r after : Regs) (before
   }
 
   -- it notes none
-  pub called-silent : (answer : Result ℕ ℕ) (m : Made) → IsMade s t tells answer m → after ≡ answered r answer → outcome ≡ Done → m.events ≡ []
+  pub called-silent : (answer : Result ℕ ℕ) (m : CallChange) → IsMade s t tells answer m → after ≡ answered r answer → outcome ≡ Done → m.events ≡ []
       → IsCalled s t after tells before before outcome (of_made r m)
   called-silent answer m made regs ends silent =
       called-noting answer m before made regs ends refl (subst (NotesAll before.noted before.noted before.failed before.failed) (sym silent) (notes-none before.noted before.failed))
 
   -- another coroutine goes on, or none
-  pub called-switched : (l : Lists) (switched : Regs) (answer : Result (Unit {0}) ℕ) (m : Switched) → IsSwitched s t l switched answer m → Knows tells l
+  pub called-switched : (l : Lists) (switched : Regs) (answer : Result (Unit {0}) ℕ) (m : SwitchChange) → IsSwitched s t l switched answer m → Knows tells l
       → after ≡ regs_of_switch switched answer → outcome ≡ Done → IsCalled s t after tells before before outcome (of_switched m)
   called-switched l switched answer m is knows regs ends = record {
     lists = is.lists;
@@ -56,14 +56,14 @@ module _ (s t : List ℕ) (tells : List ℕ → Type 0) (r after : Regs) (before
   }
 
   -- a packet is there
-  pub called-taking : (packet : ℕ) (ps : List QueuedPacket) (m : Made) (now : Outside) → IsMade s t tells (answer_of_wait (Some packet)) m → Some packet ≡ first_of_queue ps
+  pub called-taking : (packet : ℕ) (ps : List QueuedPacket) (m : CallChange) (now : Outside) → IsMade s t tells (answer_of_wait (Some packet)) m → Some packet ≡ first_of_queue ps
       → after ≡ answered r (Ok packet) → outcome ≡ Done → now.shown ≡ before.shown → NotesAll before.noted now.noted before.failed now.failed m.events
       → IsCalled s t after tells before now outcome (of_wait r ps m)
   called-taking packet [] m now made is regs ends shown notes = cc
   called-taking packet (p ∷ ps) m now made is regs ends shown notes = called-noting (Ok packet) m now made regs ends shown notes
 
   -- the caller waits for one
-  pub called-waiting : (ps : List QueuedPacket) (m : Made) (now : Outside) → IsMade s t tells (answer_of_wait None) m → None ≡ first_of_queue ps → after ≡ r → outcome ≡ Waits
+  pub called-waiting : (ps : List QueuedPacket) (m : CallChange) (now : Outside) → IsMade s t tells (answer_of_wait None) m → None ≡ first_of_queue ps → after ≡ r → outcome ≡ Waits
       → now.shown ≡ before.shown → NotesAll before.noted now.noted before.failed now.failed m.events → IsCalled s t after tells before now outcome (of_wait r ps m)
   called-waiting [] m now made is regs ends shown notes = record {
     lists = made.leaves.lists;

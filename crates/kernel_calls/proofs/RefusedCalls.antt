@@ -9,7 +9,7 @@ use Rattle.kernel_model.specs.KernelRecord.ChangedStore.{IsChanged}
 use Rattle.kernel_model.specs.KernelRecord.HoldsLists.{HoldsLists}
 use Rattle.kernel_model.specs.KernelRecord.Lists.{Lists}
 use Rattle.kernel_model.specs.KernelRecord.Owned.{owned}
-use Rattle.kernel_calls.specs.CallAnswers.Made.{Made, by_refusal, done, unless_refused}
+use Rattle.kernel_calls.specs.CallAnswers.CallChange.{CallChange, by_refusal, done, unless_refused}
 use Rattle.kernel_calls.specs.CallAnswers.Refusals.{first_refusal}
 use Rattle.kernel_calls.specs.BlockCalls.Freevec.{freevec_tests, with_given}
 use Rattle.kernel_calls.specs.Calls.{kernel_call, made, of_made, past_call, made_if_read}
@@ -18,7 +18,7 @@ use Rattle.kernel_calls.specs.declared.call_numbers.KernelCall.{KernelCall}
 use Rattle.kernel_calls.specs.declared.call_numbers.KernelCall.TheVariants.{AddModule, CallCo, ChangePri, CoWait, CreateCo, CreateTask, DeleteCo, DeleteTask, Dqpkt, Freevec, Getvec, Hold, MulDiv, Qpkt, Quit, Release, ResumeCo, SetFlags, TaskWait, TestFlags, Unload, Wrch}
 
 module _ (s : List ℕ) (l : Lists) (r : Regs) (code : ℕ) where
-  by-made : (tests : List (Bool × ℕ)) (m : Made) → first_refusal tests ≡ Some code → of_made (past_call r) (unless_refused tests l m) ≡ refused code l r
+  by-made : (tests : List (Bool × ℕ)) (m : CallChange) → first_refusal tests ≡ Some code → of_made (past_call r) (unless_refused tests l m) ≡ refused code l r
   by-made tests m e = ap (λ o. of_made (past_call r) (by_refusal o l m)) e
 
   by-freevec : (v : ℕ) (b : Bool) → first_refusal (cond b [] (freevec_tests l v)) ≡ Some code

@@ -5,7 +5,7 @@ use Rattle.kernel_lists.specs.HunkLoader.Globals.{globals_in}
 use Rattle.kernel_model.specs.KernelRecord.Changes.{with_task}
 use Rattle.kernel_model.specs.KernelRecord.Lists.{Lists}
 use Rattle.kernel_calls.specs.CallAnswers.Guests.{guest_tests}
-use Rattle.kernel_calls.specs.CallAnswers.Made.{Made, by_refusal, done, unless_refused}
+use Rattle.kernel_calls.specs.CallAnswers.CallChange.{CallChange, by_refusal, done, unless_refused}
 use Rattle.kernel_calls.specs.CallAnswers.Refusals.{first_refusal}
 use Rattle.kernel_calls.specs.BlockCalls.FreeStore.{data_taken, with_taken}
 use Rattle.kernel_calls.specs.BlockCalls.Freevec.{freevec, freevec_tests, with_given}
@@ -23,7 +23,7 @@ use Rattle.kernel_calls.specs.TaskCalls.ReleaseTask.{release, release_tests, rel
 use Rattle.kernel_calls.specs.TaskCalls.SetFlags.{flagged, set_flags}
 
 -- refused or not
-refused-silent : (o : Option ℕ) (l : Lists) (m : Made) → m.events ≡ [] → (by_refusal o l m).events ≡ []
+refused-silent : (o : Option ℕ) (l : Lists) (m : CallChange) → m.events ≡ [] → (by_refusal o l m).events ≡ []
 refused-silent None l m e = e
 refused-silent (Some code) l m e = refl
 

@@ -1,7 +1,7 @@
 pub mod Refusals
 pub mod Guests
 pub mod Callers
-pub mod Made
+pub mod CallChange
 pub mod Tasks
 pub mod Modules
 pub mod Outside

@@ -1,5 +1,5 @@
 pub mod CallersCoroutines
-pub mod Switched
+pub mod SwitchChange
 pub mod Refusals
 pub mod CallCo
 pub mod ResumeCo

@@ -22,7 +22,7 @@ use Rattle.kernel_calls.specs.CoroutineCalls.CoWait.{wait_tests}
 use Rattle.kernel_calls.specs.CoroutineCalls.CreateCo.{create_tests}
 use Rattle.kernel_calls.specs.CoroutineCalls.DeleteCo.{delete_tests}
 use Rattle.kernel_calls.specs.CoroutineCalls.ResumeCo.{resume_tests}
-use Rattle.kernel_calls.specs.Calls.{Called}
+use Rattle.kernel_calls.specs.Calls.{CallTurn}
 use Rattle.kernel_calls.specs.CallNumbers.{call_of}
 use Rattle.kernel_calls.specs.declared.call_numbers.CallOutcome.TheVariants.{Done}
 use Rattle.kernel_calls.specs.declared.call_numbers.KernelCall.{KernelCall}
@@ -63,7 +63,7 @@ pub record IsRefused (s : List ℕ) (l : Lists) (r : Regs) (code : ℕ) : Type 0
   pub failed : first_refusal (tests_of s l call) ≡ Some code
 
 -- A is 0, B is the code, and PC is past the call; all else is as it was, and there are no events
-abbrev pub refused : ℕ → Lists → Regs → Called
+abbrev pub refused : ℕ → Lists → Regs → CallTurn
 refused code l r = record {
   lists = l;
   plain = [];

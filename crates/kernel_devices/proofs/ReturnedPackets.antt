@@ -19,7 +19,7 @@ use Rattle.kernel_model.specs.KernelRecord.ValidQueues.Place.{Clock}
 use Rattle.kernel_model.proofs.KernelRecord.ChangedLists.{changed-none, changed-then}
 use Rattle.kernel_model.proofs.KernelRecord.EachMember.{all-each}
 use Rattle.kernel_model.proofs.KernelRecord.NotedInTurn.{notes-none, notes-then}
-use Rattle.kernel_calls.specs.PacketCalls.Returned.{IsServed, Served, first_returned, return_events, returned_by, with_work_for}
+use Rattle.kernel_calls.specs.PacketCalls.Returned.{DeviceChange, IsServed, first_returned, return_events, returned_by, with_work_for}
 use Rattle.kernel_calls.specs.declared.packet_calls.returns.Device.TheVariants as devices
 use Rattle.kernel_devices.specs.Tick.{due_packets, due_returned, events_of_return, is_first_due, later_packets, with_returned}
 use Rattle.kernel_calls.proofs.PacketCalls.DeviceQueues.{device-held}
@@ -105,7 +105,7 @@ module _ (now : ℕ) (m : Lists) (x : IsDue now m) where
         let held : IsChanged s t m [] = subst (λ z. IsChanged s t z []) same so.changed in
         let own : (a : ℕ) → owners a (owned m) ≡ owners a (owned l) = subst (λ z. (a : ℕ) → owners a (owned z) ≡ owners a (owned l)) same so.own in
         let served : IsServed t u m (record { lists = next; events = return_events devices.Clock q }) = subst (IsServed t u m) served-is step in
-        let notes : NotesAll after last d e (return_events devices.Clock q) = subst (λ (z : Served). NotesAll after last d e z.events) served-is noted in
+        let notes : NotesAll after last d e (return_events devices.Clock q) = subst (λ (z : DeviceChange). NotesAll after last d e z.events) served-is noted in
         record {
           lists = next;
           changed = changed-then s t u m next [] held served.lists (λ a none. sym (served.same a) ∙ none);

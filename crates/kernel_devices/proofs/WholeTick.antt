@@ -6,7 +6,7 @@ use Rattle.kernel_model.specs.KernelRecord.HoldsLists.{HoldsLists}
 use Rattle.kernel_model.specs.KernelRecord.Lists.{Lists}
 use Rattle.kernel_model.specs.KernelRecord.NotedEvents.{NotesAll}
 use Rattle.kernel_model.proofs.KernelRecord.ChangedLists.{changed-then}
-use Rattle.kernel_calls.specs.PacketCalls.Returned.{IsServed, Served}
+use Rattle.kernel_calls.specs.PacketCalls.Returned.{DeviceChange, IsServed}
 use Rattle.kernel_calls.proofs.CallAnswers.RootTold.{tick-told}
 use Rattle.kernel_devices.specs.Tick.{due_returned, ticked, with_tick}
 use Rattle.kernel_devices.proofs.TickLists.{tick-changed, tick-owned}
@@ -33,4 +33,4 @@ module _ (s v : List ℕ) (l : Lists) (was : ℕ) (h : HoldsLists s l) (is_was :
       })
 
   pub tick-noted : (before now : Option (List KernelEvent)) (b d : Bool) → NotesAll before now b d (due_returned (was + 1) after).events → NotesAll before now b d (ticked l).events
-  tick-noted before now b d notes = subst (λ (z : Served). NotesAll before now b d z.events) whole notes
+  tick-noted before now b d notes = subst (λ (z : DeviceChange). NotesAll before now b d z.events) whole notes

@@ -2,11 +2,11 @@
 use Rattle.std.specs.Prelude.{ℕ, List, [], ◌∷◌, drop}
 use Rattle.kernel_lists.specs.PacketQueue.QueueWords.{QueuedPacket}
 use Rattle.kernel_model.specs.KernelRecord.Lists.{Lists}
-use Rattle.kernel_calls.specs.PacketCalls.Returned.{Served, first_returned, unserved}
+use Rattle.kernel_calls.specs.PacketCalls.Returned.{DeviceChange, first_returned, unserved}
 use Rattle.kernel_calls.specs.declared.packet_calls.returns.Device.TheVariants.{Keyboard}
 
 -- the first packet is returned with the first byte, where there are both
-abbrev pub met : List ℕ → Lists → Served
+abbrev pub met : List ℕ → Lists → DeviceChange
 met [] l = unserved l
 met (byte ∷ bytes) l = first_returned Keyboard byte l.keyboard l
 

@@ -6,7 +6,7 @@ use Rattle.kernel_lists.specs.declared.packet_queue.events.KernelEvent.{KernelEv
 use Rattle.kernel_model.specs.KernelRecord.Changes.{with_queue}
 use Rattle.kernel_model.specs.KernelRecord.Lists.{Lists}
 use Rattle.kernel_model.specs.KernelRecord.ValidQueues.Place.{Clock}
-use Rattle.kernel_calls.specs.PacketCalls.Returned.{Served, return_events, returned_by, with_work_for}
+use Rattle.kernel_calls.specs.PacketCalls.Returned.{DeviceChange, return_events, returned_by, with_work_for}
 use Rattle.kernel_calls.specs.declared.packet_calls.returns.Device.TheVariants as devices
 
 -- the packets that are due at this tick or before
@@ -32,7 +32,7 @@ abbrev pub events_of_return : List QueuedPacket → List KernelEvent
 events_of_return qs = flat_map (return_events devices.Clock) qs
 
 -- the packets that are due at this tick are returned, and the others stay at the clock
-abbrev pub due_returned : ℕ → Lists → Served
+abbrev pub due_returned : ℕ → Lists → DeviceChange
 due_returned now l = record {
   lists = with_returned (due_packets now l.clock) (with_queue Clock (later_packets now l.clock) l);
   events = events_of_return (due_packets now l.clock);
@@ -43,5 +43,5 @@ abbrev pub with_tick : ℕ → Lists → Lists
 with_tick now l = record l { tick = now }
 
 -- the ticks are one more
-abbrev pub ticked : Lists → Served
+abbrev pub ticked : Lists → DeviceChange
 ticked l = due_returned (l.tick + 1) (with_tick (l.tick + 1) l)

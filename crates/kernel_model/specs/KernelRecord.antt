@@ -5,6 +5,7 @@ pub mod Changes
 pub mod HoldsLists
 pub mod Image
 pub mod Kernel
+pub mod KernelChange
 pub mod KernelRanges
 pub mod Lists
 pub mod MovedTask

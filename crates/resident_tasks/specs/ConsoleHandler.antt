@@ -1,6 +1,6 @@
 pub mod Line
 pub mod KeyPacket
 pub mod Reads
-pub mod Progress
+pub mod TurnParts
 pub mod Deliveries
 pub mod ConsoleTurn

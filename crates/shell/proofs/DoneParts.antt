@@ -10,7 +10,7 @@ use Rattle.kernel_model.specs.KernelRecord.Owned.{owned}
 use Rattle.kernel_model.proofs.KernelRecord.ChangedLists.{knows-same}
 use Rattle.kernel_model.proofs.KernelRecord.NotedInTurn.{notes-none, notes-then}
 use Rattle.ram_disc.specs.Disc.{Disc}
-use Rattle.kernel_calls.specs.CallAnswers.Made.{Leaves, Made, plain_answer}
+use Rattle.kernel_calls.specs.CallAnswers.CallChange.{CallChange, Leaves, plain_answer}
 use Rattle.kernel_calls.specs.CallAnswers.Outside.{Outside, outside}
 use Rattle.kernel_model.specs.KernelRecord.StoreWithLists.{StoreWithLists, left_with, store_with_lists}
 use Rattle.kernel_boot.proofs.StoresAfterCalls.{left-is}
@@ -19,7 +19,7 @@ use Rattle.shell.specs.ShellPrograms.ShellPacket.{CanPost, post_events, posted, 
 use Rattle.shell.specs.ShellPrograms.StoresWithLists.{RepresentsStoreWithLists}
 use Rattle.shell.proofs.ShellPrograms.SentRules.{posted-runs}
 use Rattle.kernel_model.specs.declared.kernel_record.numbers.TheConstants.{CONSOLE}
-use Rattle.shell.specs.DoneParts.{IsDone, IsReady, Start}
+use Rattle.shell.specs.DoneParts.{IsDone, IsReady, ShellStart}
 use Rattle.shell.specs.Prompts.{answered, prompted, refused, with_packet_sent}
 use Rattle.shell.specs.TurnParts.{ShellTurn, and_then, called, in_mode, shown, with_disc}
 use Rattle.shell.proofs.RunningShell.{GoesOn, posted-running}
@@ -41,12 +41,12 @@ left-represents {t = t} {k = k} h u told after l plain x knows room_is =
 
 -- ---- a part more
 
-pub done-is : {b : Start} {t : List ℕ} {tells : List ℕ → Type 0} {room : ℕ} {now : Outside} {sh : Shell} {d : Disc} {fin : Bool} {x : ShellTurn}
+pub done-is : {b : ShellStart} {t : List ℕ} {tells : List ℕ → Type 0} {room : ℕ} {now : Outside} {sh : Shell} {d : Disc} {fin : Bool} {x : ShellTurn}
     → IsDone b t tells room now sh d fin x → (y : ShellTurn) → x ≡ y → IsDone b t tells room now sh d fin y
 done-is {b = b} {t = t} {tells = tells} {room = room} {now = now} {sh = sh} {d = d} {fin = fin} h y e = subst (IsDone b t tells room now sh d fin) e h
 
 -- bytes go to the output
-pub done-shown : {b : Start} {t : List ℕ} {tells : List ℕ → Type 0} {room : ℕ} {now : Outside} {sh : Shell} {d : Disc} {fin : Bool} {x : ShellTurn}
+pub done-shown : {b : ShellStart} {t : List ℕ} {tells : List ℕ → Type 0} {room : ℕ} {now : Outside} {sh : Shell} {d : Disc} {fin : Bool} {x : ShellTurn}
     → IsDone b t tells room now sh d fin x → (bytes seen : List ℕ) → seen ≡ now.shown ++ bytes → IsDone b t tells room (outside seen now.noted now.failed) sh d fin (shown bytes x)
 done-shown {b = b} {x = x} h bytes seen e =
     record {
@@ -62,7 +62,7 @@ done-shown {b = b} {x = x} h bytes seen e =
     }
 
 -- the shell does something else next
-pub done-mode : {b : Start} {t : List ℕ} {tells : List ℕ → Type 0} {room : ℕ} {now : Outside} {sh : Shell} {d : Disc} {fin : Bool} {x : ShellTurn}
+pub done-mode : {b : ShellStart} {t : List ℕ} {tells : List ℕ → Type 0} {room : ℕ} {now : Outside} {sh : Shell} {d : Disc} {fin : Bool} {x : ShellTurn}
     → IsDone b t tells room now sh d fin x → (m : Mode) (after : Shell) → after ≡ record sh { mode = m } → IsDone b t tells room now after d fin (in_mode m x)
 done-mode h m after e =
     record {
@@ -78,7 +78,7 @@ done-mode h m after e =
     }
 
 -- the disc is another
-pub done-disc : {b : Start} {t : List ℕ} {tells : List ℕ → Type 0} {room : ℕ} {now : Outside} {sh : Shell} {d : Disc} {fin : Bool} {x : ShellTurn}
+pub done-disc : {b : ShellStart} {t : List ℕ} {tells : List ℕ → Type 0} {room : ℕ} {now : Outside} {sh : Shell} {d : Disc} {fin : Bool} {x : ShellTurn}
     → IsDone b t tells room now sh d fin x → (after e : Disc) → after ≡ e → IsDone b t tells room now sh after fin (with_disc e x)
 done-disc h after e same =
     record {
@@ -94,7 +94,7 @@ done-disc h after e same =
     }
 
 -- the store is otherwise, and these events were noted
-pub done-then : {b : Start} {t : List ℕ} {tells : List ℕ → Type 0} {room : ℕ} {now : Outside} {sh : Shell} {d : Disc} {fin : Bool} {x : ShellTurn}
+pub done-then : {b : ShellStart} {t : List ℕ} {tells : List ℕ → Type 0} {room : ℕ} {now : Outside} {sh : Shell} {d : Disc} {fin : Bool} {x : ShellTurn}
     → IsDone b t tells room now sh d fin x → {u : List ℕ} {told : List ℕ → Type 0} {after : ℕ} {k : StoreWithLists} → RepresentsStoreWithLists u told after k → after ≡ room
     → (noted : Option (List KernelEvent)) (failed : Bool) (events : List KernelEvent) → NotesAll now.noted noted now.failed failed events
     → RunsResident k.lists → k.lists.running ≡ x.store.lists.running → IsDone b u told after (outside now.shown noted failed) sh d fin (and_then k events x)
@@ -112,32 +112,32 @@ done-then {b = b} {now = now} {x = x} h represents room_is noted failed events n
     }
 
 -- and nothing was noted
-pub done-quietly : {b : Start} {t : List ℕ} {tells : List ℕ → Type 0} {room : ℕ} {now : Outside} {sh : Shell} {d : Disc} {fin : Bool} {x : ShellTurn}
+pub done-quietly : {b : ShellStart} {t : List ℕ} {tells : List ℕ → Type 0} {room : ℕ} {now : Outside} {sh : Shell} {d : Disc} {fin : Bool} {x : ShellTurn}
     → IsDone b t tells room now sh d fin x → {u : List ℕ} {told : List ℕ → Type 0} {after : ℕ} {k : StoreWithLists} → RepresentsStoreWithLists u told after k → after ≡ room
     → RunsResident k.lists → k.lists.running ≡ x.store.lists.running → IsDone b u told after now sh d fin (and_then k [] x)
 done-quietly {now = now} h represents room_is runs still = done-then h represents room_is now.noted now.failed [] (notes-none now.noted now.failed) runs still
 
 -- ---- the shell has its packet
 
-pub ready-shown : {b : Start} {t : List ℕ} {tells : List ℕ → Type 0} {room : ℕ} {now : Outside} {sh : Shell} {d : Disc} {x : ShellTurn}
+pub ready-shown : {b : ShellStart} {t : List ℕ} {tells : List ℕ → Type 0} {room : ℕ} {now : Outside} {sh : Shell} {d : Disc} {x : ShellTurn}
     → IsReady b t tells room now sh d x → (bytes seen : List ℕ) → seen ≡ now.shown ++ bytes → IsReady b t tells room (outside seen now.noted now.failed) sh d (shown bytes x)
 ready-shown h bytes seen e = record { done = done-shown h.done bytes seen e; packet = h.packet }
 
-pub ready-disc : {b : Start} {t : List ℕ} {tells : List ℕ → Type 0} {room : ℕ} {now : Outside} {sh : Shell} {d : Disc} {x : ShellTurn}
+pub ready-disc : {b : ShellStart} {t : List ℕ} {tells : List ℕ → Type 0} {room : ℕ} {now : Outside} {sh : Shell} {d : Disc} {x : ShellTurn}
     → IsReady b t tells room now sh d x → (after e : Disc) → after ≡ e → IsReady b t tells room now sh after (with_disc e x)
 ready-disc h after e same = record { done = done-disc h.done after e same; packet = h.packet }
 
 -- it may go to a task that is there
-pub can-post : {b : Start} {t : List ℕ} {tells : List ℕ → Type 0} {room : ℕ} {now : Outside} {sh : Shell} {d : Disc} {x : ShellTurn}
+pub can-post : {b : ShellStart} {t : List ℕ} {tells : List ℕ → Type 0} {room : ℕ} {now : Outside} {sh : Shell} {d : Disc} {x : ShellTurn}
     → IsReady b t tells room now sh d x → (to : ℕ) → has_task to x.store.lists.tasks ≡ true → CanPost x.store.lists to
 can-post h to there = record { packet = h.packet; there = there }
 
 -- the console is there
-pub console-there : {b : Start} {t : List ℕ} {tells : List ℕ → Type 0} {room : ℕ} {now : Outside} {sh : Shell} {d : Disc} {x : ShellTurn}
+pub console-there : {b : ShellStart} {t : List ℕ} {tells : List ℕ → Type 0} {room : ℕ} {now : Outside} {sh : Shell} {d : Disc} {x : ShellTurn}
     → IsReady b t tells room now sh d x → has_task CONSOLE x.store.lists.tasks ≡ true
 console-there h = (let v = h.done.represents.keeper.lists.valid.tasks in v.console ∙ sym v.shell ∙ h.packet.shell)
 
-pub done-posted : {b : Start} {t : List ℕ} {tells : List ℕ → Type 0} {room : ℕ} {now : Outside} {sh : Shell} {d : Disc} {x : ShellTurn}
+pub done-posted : {b : ShellStart} {t : List ℕ} {tells : List ℕ → Type 0} {room : ℕ} {now : Outside} {sh : Shell} {d : Disc} {x : ShellTurn}
     → IsReady b t tells room now sh d x → (to : ℕ) → to ≤ 63 → {u : List ℕ} {told : List ℕ → Type 0} {after : ℕ} → RepresentsStoreWithLists u told after (posted to (store_with_lists t x.store.lists)) → after ≡ room
     → (noted : Option (List KernelEvent)) (failed : Bool) → NotesAll now.noted noted now.failed failed (post_events to)
     → IsDone b u told after (outside now.shown noted failed) sh d false (and_then (posted to x.store) (post_events to) x)
@@ -145,7 +145,7 @@ done-posted {x = x} h to low {u = u} {told = told} {after = after} represents ro
     done-then h.done (subst (λ k. RepresentsStoreWithLists u told after (posted to k)) (store_with_lists-is h.done.represents) represents) room_is noted failed (post_events to) notes
     (posted-runs to x.store low h.done.runs) (posted-running to x.store low)
 
-pub done-sent : {b : Start} {t : List ℕ} {tells : List ℕ → Type 0} {room : ℕ} {now : Outside} {sh : Shell} {d : Disc} {x : ShellTurn}
+pub done-sent : {b : ShellStart} {t : List ℕ} {tells : List ℕ → Type 0} {room : ℕ} {now : Outside} {sh : Shell} {d : Disc} {x : ShellTurn}
     → IsReady b t tells room now sh d x → (to kind : ℕ) → to ≤ 63 → {u : List ℕ} {told : List ℕ → Type 0} {after : ℕ} → RepresentsStoreWithLists u told after (requested to kind (store_with_lists t x.store.lists)) → after ≡ room
     → (noted : Option (List KernelEvent)) (failed : Bool) → NotesAll now.noted noted now.failed failed (post_events to)
     → IsDone b u told after (outside now.shown noted failed) sh d false (with_packet_sent to kind x)
@@ -155,8 +155,8 @@ done-sent {x = x} h to kind low {u = u} {told = told} {after = after} represents
 
 -- ---- a call about a task
 
-pub ready-called : {b : Start} {t : List ℕ} {tells : List ℕ → Type 0} {room : ℕ} {now : Outside} {sh : Shell} {d : Disc} {x : ShellTurn}
-    → IsReady b t tells room now sh d x → (u : List ℕ) (answer : Result ℕ ℕ) (m : Made) → Leaves t u answer m → ((a : ℕ) → owners a (owned m.lists) ≡ owners a (owned x.store.lists)) → GoesOn x.store.lists m
+pub ready-called : {b : ShellStart} {t : List ℕ} {tells : List ℕ → Type 0} {room : ℕ} {now : Outside} {sh : Shell} {d : Disc} {x : ShellTurn}
+    → IsReady b t tells room now sh d x → (u : List ℕ) (answer : Result ℕ ℕ) (m : CallChange) → Leaves t u answer m → ((a : ℕ) → owners a (owned m.lists) ≡ owners a (owned x.store.lists)) → GoesOn x.store.lists m
     → IsReady b u tells room now sh d (called m x)
 ready-called {tells = tells} {room = room} {now = now} {x = x} h u answer m leaves same goes =
     record {

@@ -12,7 +12,7 @@ use Rattle.kernel_model.specs.KernelRecord.Task.{Task, is_guest_id}
 use Rattle.kernel_model.specs.KernelRecord.ValidLists.{AreValid}
 use Rattle.kernel_model.proofs.KernelRecord.AllThings.{all-inserted}
 use Rattle.kernel_calls.specs.CallAnswers.Guests.{guest_tests}
-use Rattle.kernel_calls.specs.CallAnswers.Made.{Made, by_refusal, done}
+use Rattle.kernel_calls.specs.CallAnswers.CallChange.{CallChange, by_refusal, done}
 use Rattle.kernel_calls.specs.CallAnswers.Refusals.{first_refusal}
 use Rattle.kernel_calls.specs.TaskCalls.ChangePri.{change_pri, moved, priority_tests, with_new_priority}
 use Rattle.kernel_calls.specs.TaskCalls.HoldTask.{held, hold, hold_tests}
@@ -65,7 +65,7 @@ shell-there : (l m : Lists) → AreValid l → AreValid m → m.residents ≡ l.
 shell-there l m v w same is r = w.tasks.shell ∙ same ∙ sym v.tasks.shell ∙ ap (λ i. has_task i l.tasks) (sym is) ∙ r.there
 
 -- what a call makes, where it is refused or not
-abbrev made : Option ℕ → Lists → Lists → Made
+abbrev made : Option ℕ → Lists → Lists → CallChange
 made o l m = by_refusal o l (done m)
 
 pub made-events : (o : Option ℕ) (l m : Lists) → (made o l m).events ≡ []
@@ -81,7 +81,7 @@ made-running None l m e = e
 made-running (Some code) l m e = refl
 
 -- The shell goes on running, and the call has no events.
-pub record GoesOn (l : Lists) (m : Made) : Type 0 where
+pub record GoesOn (l : Lists) (m : CallChange) : Type 0 where
   pub runs : RunsResident m.lists
   pub running : m.lists.running ≡ l.running
   pub events : m.events ≡ []

@@ -18,17 +18,17 @@ use Rattle.shell.proofs.ShellPrograms.KeptSteps.{started-there}
 use Rattle.shell.proofs.ShellPrograms.StoresAfterCalls.{begun-represents}
 use Rattle.shell.proofs.ShellPrograms.PacketPlace.{packet-kept}
 use Rattle.shell.specs.Commands.{with_program_begun, with_started}
-use Rattle.shell.specs.DoneParts.{IsReady, Start}
+use Rattle.shell.specs.DoneParts.{IsReady, ShellStart}
 use Rattle.shell.specs.TurnParts.{ShellTurn}
 use Rattle.shell.proofs.DoneParts.{done-quietly, store_with_lists-is}
 
 -- ---- a program is started, or refused
 
-started-is : {b : Start} {t : List ℕ} {tells : List ℕ → Type 0} {room : ℕ} {now : Outside} {sh : Shell} {d : Disc} {x : ShellTurn}
+started-is : {b : ShellStart} {t : List ℕ} {tells : List ℕ → Type 0} {room : ℕ} {now : Outside} {sh : Shell} {d : Disc} {x : ShellTurn}
     → IsReady b t tells room now sh d x → (name : List ℕ) (rest : Result (Unit {0}) ℕ) (pri : Priority) → start_program d name rest pri (store_with_lists t x.store.lists) ≡ start_program x.disc name rest pri x.store
 started-is r name rest pri = λ i. start_program (r.done.disc i) name rest pri (store_with_lists-is r.done.represents i)
 
-pub ready-started : {b : Start} {t : List ℕ} {tells : List ℕ → Type 0} {room : ℕ} {now : Outside} {sh : Shell} {d : Disc} {x : ShellTurn}
+pub ready-started : {b : ShellStart} {t : List ℕ} {tells : List ℕ → Type 0} {room : ℕ} {now : Outside} {sh : Shell} {d : Disc} {x : ShellTurn}
     → IsReady b t tells room now sh d x → (name : List ℕ) (rest : Result (Unit {0}) ℕ) (pri : Priority) (u : List ℕ) (told : List ℕ → Type 0) (after : ℕ) (answer : Result ℕ ℕ)
     → IsStarted u told after answer (start_program d name rest pri (store_with_lists t x.store.lists)) → after ≡ room → IsReady b u told after now sh d (with_started (start_program x.disc name rest pri x.store) x)
 ready-started {x = x} r name rest pri u told after answer y room_is =
@@ -39,7 +39,7 @@ ready-started {x = x} r name rest pri u told after answer y room_is =
       packet = packet-kept x.store.lists _ r.done.represents.keeper.lists.valid z.represents.keeper.lists.valid kept (started-packets x.disc name rest pri x.store) r.packet;
     }
 
-pub started-answer : {b : Start} {t : List ℕ} {tells : List ℕ → Type 0} {room : ℕ} {now : Outside} {sh : Shell} {d : Disc} {x : ShellTurn}
+pub started-answer : {b : ShellStart} {t : List ℕ} {tells : List ℕ → Type 0} {room : ℕ} {now : Outside} {sh : Shell} {d : Disc} {x : ShellTurn}
     → IsReady b t tells room now sh d x → (name : List ℕ) (rest : Result (Unit {0}) ℕ) (pri : Priority) (u : List ℕ) (told : List ℕ → Type 0) (after : ℕ) (answer : Result ℕ ℕ)
     → IsStarted u told after answer (start_program d name rest pri (store_with_lists t x.store.lists)) → answer ≡ (start_program x.disc name rest pri x.store).answer
 started-answer r name rest pri u told after answer y = y.answered ∙ ap (λ (m : Started). m.answer) (started-is r name rest pri)
@@ -54,7 +54,7 @@ started-low x name rest pri id e = omega (arith, (started-there x.disc name rest
 
 -- ---- it begins
 
-pub ready-begun : {b : Start} {t : List ℕ} {tells : List ℕ → Type 0} {room : ℕ} {now : Outside} {sh : Shell} {d : Disc} {x : ShellTurn}
+pub ready-begun : {b : ShellStart} {t : List ℕ} {tells : List ℕ → Type 0} {room : ℕ} {now : Outside} {sh : Shell} {d : Disc} {x : ShellTurn}
     → IsReady b t tells room now sh d x → (id : ℕ) (u : List ℕ) → HasGuest x.store.lists id → IsChanged t u (with_begun t id x.store.lists) [] → IsReady b u tells room now sh d (with_program_begun id x)
 ready-begun {t = t} {tells = tells} {room = room} {x = x} r id u guest y =
     let represents : RepresentsStoreWithLists u tells room (begun id x.store) =

@@ -6,7 +6,7 @@ use Rattle.kernel_model.specs.KernelRecord.Kernel.{Shell}
 use Rattle.kernel_model.specs.KernelRecord.Lists.{has_task}
 use Rattle.kernel_model.specs.KernelRecord.NotedEvents.{NotesAll}
 use Rattle.ram_disc.specs.Disc.{Disc}
-use Rattle.kernel_calls.specs.CallAnswers.Made.{IsMade, minus_one}
+use Rattle.kernel_calls.specs.CallAnswers.CallChange.{IsMade, minus_one}
 use Rattle.kernel_calls.specs.CallAnswers.Outside.{Outside, outside}
 use Rattle.resident_tasks.specs.ResidentRequests.Answers.{returned}
 use Rattle.resident_tasks.specs.ResidentRequests.Requests.{HasRequest, IsTaken, RunsResident, TakesRequest, first_request, taken, work}
@@ -14,17 +14,17 @@ use Rattle.resident_tasks.specs.declared.resident_requests.requests.Request.{Req
 use Rattle.resident_tasks.proofs.ResidentRequests.ResidentTurns.{takes-request}
 use Rattle.resident_tasks.proofs.ResidentRequests.TakenRequest.{taken-running}
 use Rattle.kernel_model.specs.declared.kernel_record.numbers.TheConstants.{SHELL_PACKET}
-use Rattle.shell.specs.DoneParts.{IsDone, IsReady, Start}
+use Rattle.shell.specs.DoneParts.{IsDone, IsReady, ShellStart}
 use Rattle.shell.specs.ShellTurn.{first_treated, packet_taken, returned_unknown, treated, treated_in}
 use Rattle.shell.specs.TurnParts.{ShellTurn}
 use Rattle.shell.proofs.DoneParts.{done-then, left-represents}
 
 -- the shell may take a packet
-pub shell-takes : {b : Start} {t : List ℕ} {tells : List ℕ → Type 0} {room : ℕ} {now : Outside} {sh : Shell} {d : Disc} {fin : Bool} {x : ShellTurn}
+pub shell-takes : {b : ShellStart} {t : List ℕ} {tells : List ℕ → Type 0} {room : ℕ} {now : Outside} {sh : Shell} {d : Disc} {fin : Bool} {x : ShellTurn}
     → IsDone b t tells room now sh d fin x → TakesRequest x.store.lists
 shell-takes {x = x} h = takes-request x.store.lists h.represents.keeper.lists.valid h.runs (λ e. omega (arith, e, h.is)) (λ e. omega (arith, e, h.is))
 
-pub done-taken : {b : Start} {t : List ℕ} {tells : List ℕ → Type 0} {room : ℕ} {now : Outside} {sh : Shell} {d : Disc} {fin : Bool} {x : ShellTurn}
+pub done-taken : {b : ShellStart} {t : List ℕ} {tells : List ℕ → Type 0} {room : ℕ} {now : Outside} {sh : Shell} {d : Disc} {fin : Bool} {x : ShellTurn}
     → IsDone b t tells room now sh d fin x → (u : List ℕ) (told : List ℕ → Type 0) (after : ℕ) (o : Option Request) → IsTaken t u told x.store.lists o → after ≡ room
     → (noted : Option (List KernelEvent)) (failed : Bool) → NotesAll now.noted noted now.failed failed (taken x.store.lists).events
     → IsDone b u told after (outside now.shown noted failed) sh d fin (packet_taken x)
@@ -38,7 +38,7 @@ taken-treated x u o is words = ap (λ q. treated q (packet_taken x)) (is ∙ ap 
 
 -- ---- a packet of another task
 
-pub done-returned : {b : Start} {t : List ℕ} {tells : List ℕ → Type 0} {room : ℕ} {now : Outside} {sh : Shell} {d : Disc} {fin : Bool} {x : ShellTurn}
+pub done-returned : {b : ShellStart} {t : List ℕ} {tells : List ℕ → Type 0} {room : ℕ} {now : Outside} {sh : Shell} {d : Disc} {fin : Bool} {x : ShellTurn}
     → IsDone b t tells room now sh d fin x → (r : Request) (u : List ℕ) (told : List ℕ → Type 0) (after : ℕ) → IsMade t u told (Ok minus_one) (returned x.store.lists r (Err 31)) → after ≡ room
     → RunsResident (returned x.store.lists r (Err 31)).lists
     → (noted : Option (List KernelEvent)) (failed : Bool) → NotesAll now.noted noted now.failed failed (returned x.store.lists r (Err 31)).events
@@ -52,7 +52,7 @@ other-treated r x ne = ap (λ f. cond f (treated_in x.shell.mode r x) (returned_
 
 -- ---- the shell's own
 
-pub ready-own : {b : Start} {t : List ℕ} {tells : List ℕ → Type 0} {room : ℕ} {now : Outside} {sh : Shell} {d : Disc} {x : ShellTurn}
+pub ready-own : {b : ShellStart} {t : List ℕ} {tells : List ℕ → Type 0} {room : ℕ} {now : Outside} {sh : Shell} {d : Disc} {x : ShellTurn}
     → IsDone b t tells room now sh d false x → (r : Request) → HasRequest t x.store.lists r → r.packet ≡ SHELL_PACKET → IsReady b t tells room now sh d x
 ready-own {x = x} h r y is =
     record {

@@ -6,7 +6,7 @@ use Rattle.kernel_model.specs.KernelRecord.Kernel.{Shell}
 use Rattle.kernel_model.specs.KernelRecord.Lists.{Lists}
 use Rattle.kernel_model.specs.KernelRecord.Owned.{owned}
 use Rattle.ram_disc.specs.Disc.{Disc}
-use Rattle.kernel_calls.specs.CallAnswers.Made.{Leaves, Made, plain_answer}
+use Rattle.kernel_calls.specs.CallAnswers.CallChange.{CallChange, Leaves, plain_answer}
 use Rattle.kernel_calls.specs.CallAnswers.Outside.{Outside}
 use Rattle.kernel_calls.specs.TaskCalls.ChangePri.{change_pri}
 use Rattle.kernel_calls.specs.TaskCalls.HoldTask.{hold}
@@ -16,14 +16,14 @@ use Rattle.kernel_calls.proofs.TaskCalls.SameWords.{change_pri-owners, hold-owne
 use Rattle.resident_tasks.specs.ResidentRequests.Requests.{RunsResident}
 use Rattle.kernel_model.specs.declared.kernel_record.numbers.TheConstants.{SHELL}
 use Rattle.shell.specs.Commands.{by_call}
-use Rattle.shell.specs.DoneParts.{IsDone, IsReady, Start}
+use Rattle.shell.specs.DoneParts.{IsDone, IsReady, ShellStart}
 use Rattle.shell.specs.Prompts.{answered}
 use Rattle.shell.specs.TurnParts.{ShellTurn, called}
 use Rattle.shell.proofs.DoneParts.{answered-plainly, done-is, ready-called}
 use Rattle.shell.proofs.RunningShell.{GoesOn, flags-goes, hold-goes, pri-goes, release-goes}
 
 -- It leaves the same words owned, and the shell goes on running.
-pub record IsTaskCall (call : Lists → Made) : Type 0 where
+pub record IsTaskCall (call : Lists → CallChange) : Type 0 where
   pub owns : (s : List ℕ) (l : Lists) → HoldsLists s l → (a : ℕ) → owners a (owned (call l).lists) ≡ owners a (owned l)
   pub goes : (s t : List ℕ) (l : Lists) → HoldsLists s l → HoldsLists t (call l).lists → l.running ≡ SHELL → RunsResident l → GoesOn l (call l)
 
@@ -40,8 +40,8 @@ pub flags-call : (task flags : ℕ) → IsTaskCall (λ l. set_flags l task flags
 flags-call task flags = record { owns = λ s l h a. set_flags-owners s l h a task flags; goes = λ s t l h k is r. flags-goes l task flags r }
 
 -- the store that was t is u, and the call's outcome is o
-module _ {b : Start} {t : List ℕ} {tells : List ℕ → Type 0} {room : ℕ} {now : Outside} {sh : Shell} {d : Disc} {x : ShellTurn} (r : IsReady b t tells room now sh d x)
-    (call : Lists → Made) (is : IsTaskCall call) (u : List ℕ) (o : Result (Unit {0}) ℕ) (leaves : (l : Lists) → HoldsLists t l → Leaves t u (plain_answer o) (call l)) where
+module _ {b : ShellStart} {t : List ℕ} {tells : List ℕ → Type 0} {room : ℕ} {now : Outside} {sh : Shell} {d : Disc} {x : ShellTurn} (r : IsReady b t tells room now sh d x)
+    (call : Lists → CallChange) (is : IsTaskCall call) (u : List ℕ) (o : Result (Unit {0}) ℕ) (leaves : (l : Lists) → HoldsLists t l → Leaves t u (plain_answer o) (call l)) where
   pub ready-by-call : IsReady b u tells room now sh d (called (call x.store.lists) x)
   ready-by-call =
       let l = x.store.lists in

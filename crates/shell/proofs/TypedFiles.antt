@@ -3,20 +3,20 @@ use Rattle.std.proofs.Common.{◌≡◌, ℕ, Bool, true, false, Result, Ok, Err
 use Rattle.ram_disc.specs.Disc.{Disc}
 use Rattle.kernel_calls.specs.CallAnswers.Outside.{Outside, outside}
 use Rattle.kernel_model.specs.KernelRecord.Kernel.{Shell}
-use Rattle.shell.specs.DoneParts.{IsReady, Start}
+use Rattle.shell.specs.DoneParts.{IsReady, ShellStart}
 use Rattle.shell.specs.Prompts.{prompted, refused}
 use Rattle.shell.specs.TurnParts.{ShellTurn, with_disc}
 use Rattle.shell.specs.TypedFiles.{after_piece, after_typing, goes_on, is_typed, next_piece, typed, typed_if, with_piece, with_stream_closed}
 use Rattle.shell.proofs.DoneParts.{ready-disc, ready-shown}
 
 -- a piece was written
-pub ready-piece : {b : Start} {t : List ℕ} {tells : List ℕ → Type 0} {room : ℕ} {now : Outside} {sh : Shell} {d : Disc} {x : ShellTurn}
+pub ready-piece : {b : ShellStart} {t : List ℕ} {tells : List ℕ → Type 0} {room : ℕ} {now : Outside} {sh : Shell} {d : Disc} {x : ShellTurn}
     → IsReady b t tells room now sh d x → (after : Disc) (seen : List ℕ) → after ≡ after_piece d → seen ≡ now.shown ++ next_piece d → IsReady b t tells room (outside seen now.noted now.failed) sh after (with_piece x)
 ready-piece {now = now} {x = x} r after seen is shows =
     ready-disc (ready-shown r (next_piece x.disc) seen (shows ∙ ap (λ d. now.shown ++ next_piece d) r.done.disc)) after (after_piece x.disc) (is ∙ ap after_piece r.done.disc)
 
 -- the stream was closed
-pub ready-closed : {b : Start} {t : List ℕ} {tells : List ℕ → Type 0} {room : ℕ} {now : Outside} {sh : Shell} {d : Disc} {x : ShellTurn}
+pub ready-closed : {b : ShellStart} {t : List ℕ} {tells : List ℕ → Type 0} {room : ℕ} {now : Outside} {sh : Shell} {d : Disc} {x : ShellTurn}
     → IsReady b t tells room now sh d x → (after : Disc) → after ≡ with_stream_closed d → IsReady b t tells room now sh after (with_disc (with_stream_closed x.disc) x)
 ready-closed {x = x} r after is = ready-disc r after (with_stream_closed x.disc) (is ∙ ap with_stream_closed r.done.disc)
 

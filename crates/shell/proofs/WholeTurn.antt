@@ -15,12 +15,12 @@ use Rattle.resident_tasks.specs.ResidentRequests.Requests.{work}
 use Rattle.shell.specs.ShellPrograms.ClearedTasks.{cleared}
 use Rattle.shell.specs.ShellPrograms.StoresWithLists.{RepresentsStoreWithLists}
 use Rattle.shell.proofs.ShellPrograms.KeptRules.{cleared-residents, cleared-runs}
-use Rattle.shell.specs.DoneParts.{IsDone, IsShellTurn, Start}
+use Rattle.shell.specs.DoneParts.{IsDone, IsShellTurn, ShellStart}
 use Rattle.shell.specs.ShellTurn.{RunsShell, all_parts, ended, first_treated, shell_turn, with_cleared}
 use Rattle.shell.specs.TurnParts.{ShellTurn, and_then, begun}
 use Rattle.shell.proofs.DoneParts.{done-quietly, left-represents}
 
-abbrev start : Outside → ℕ → Start
+abbrev start : Outside → ℕ → ShellStart
 start o room = record { outside = o; room = room }
 
 pub done-begun : (s : List ℕ) (tells : List ℕ → Type 0) (room : ℕ) (o : Outside) (l : Lists) (sh : Shell) (d : Disc) → HasKeeper s tells room l → RunsShell l sh d
@@ -39,20 +39,20 @@ done-begun s tells room o l sh d k r =
     }
 
 -- the shell has cleared up
-pub done-cleared : {b : Start} {t : List ℕ} {tells : List ℕ → Type 0} {room : ℕ} {now : Outside} {sh : Shell} {d : Disc} {fin : Bool} {x : ShellTurn}
+pub done-cleared : {b : ShellStart} {t : List ℕ} {tells : List ℕ → Type 0} {room : ℕ} {now : Outside} {sh : Shell} {d : Disc} {fin : Bool} {x : ShellTurn}
     → IsDone b t tells room now sh d fin x → (u : List ℕ) (told : List ℕ → Type 0) (after : ℕ) → RepresentsStoreWithLists u told after (cleared x.store) → after ≡ room
     → IsDone b u told after now sh d fin (with_cleared x)
 done-cleared {x = x} h u told after represents room_is =
     done-quietly h represents room_is (cleared-runs x.store h.runs) (ap (λ (l : Lists). l.running) (cleared-residents x.store).rest)
 
-pub done-ends : {b : Start} {t : List ℕ} {tells : List ℕ → Type 0} {room : ℕ} {now : Outside} {sh : Shell} {d : Disc} {fin : Bool} {x : ShellTurn}
+pub done-ends : {b : ShellStart} {t : List ℕ} {tells : List ℕ → Type 0} {room : ℕ} {now : Outside} {sh : Shell} {d : Disc} {fin : Bool} {x : ShellTurn}
     → IsDone b t tells room now sh d fin x → {f : Bool} → fin ≡ f → IsDone b t tells room now sh d f x
 done-ends {b = b} {t = t} {tells = tells} {room = room} {now = now} {sh = sh} {d = d} {x = x} h e = subst (λ f. IsDone b t tells room now sh d f x) e h
 
 -- ---- the end
 
 -- it waits where it has no packets
-pub turn-ended : {b : Start} {t : List ℕ} {tells : List ℕ → Type 0} {room : ℕ} {now : Outside} {sh : Shell} {d : Disc} {x : ShellTurn}
+pub turn-ended : {b : ShellStart} {t : List ℕ} {tells : List ℕ → Type 0} {room : ℕ} {now : Outside} {sh : Shell} {d : Disc} {x : ShellTurn}
     → IsDone b t tells room now sh d false x → (u : List ℕ) → IsFinished t u x.store.lists → IsShellTurn u tells room b.outside now sh d false (ended x)
 turn-ended {b = b} {tells = tells} {room = room} {now = now} {sh = sh} {d = d} {x = x} h u y = on x.finished h.finished
   where
@@ -67,7 +67,7 @@ turn-ended {b = b} {tells = tells} {room = room} {now = now} {sh = sh} {d = d} {
     on false e = record { represents = represents; bytes = h.bytes; notes = notes-then b.outside.noted now.noted now.noted b.outside.failed now.failed now.failed x.events [] h.notes (notes-none now.noted now.failed); shell = h.shell; disc = h.disc; finished = h.finished }
 
 -- the machine is finished
-pub turn-finished : {b : Start} {t : List ℕ} {tells : List ℕ → Type 0} {room : ℕ} {now : Outside} {sh : Shell} {d : Disc} {x : ShellTurn}
+pub turn-finished : {b : ShellStart} {t : List ℕ} {tells : List ℕ → Type 0} {room : ℕ} {now : Outside} {sh : Shell} {d : Disc} {x : ShellTurn}
     → IsDone b t tells room now sh d true x → IsShellTurn t tells room b.outside now sh d true (ended x)
 turn-finished {b = b} {t = t} {tells = tells} {room = room} {now = now} {sh = sh} {d = d} {x = x} h = on x.finished h.finished
   where

@@ -2,7 +2,7 @@
 use Rattle.std.specs.Prelude.{ℕ, true, Option, Some, None, Result, Ok, Err, List, []}
 use Rattle.kernel_model.specs.KernelRecord.Kernel.Mode.{Waiting}
 use Rattle.ram_disc.specs.DiscCalls.{Outcome, after_delete, after_rename}
-use Rattle.kernel_calls.specs.CallAnswers.Made.{Made}
+use Rattle.kernel_calls.specs.CallAnswers.CallChange.{CallChange}
 use Rattle.kernel_calls.specs.TaskCalls.ChangePri.{change_pri}
 use Rattle.kernel_calls.specs.TaskCalls.HoldTask.{hold}
 use Rattle.kernel_calls.specs.TaskCalls.ReleaseTask.{release}
@@ -26,7 +26,7 @@ abbrev pub by_disc : {A : Type 0} → Outcome A → ShellTurn → ShellTurn
 by_disc o x = answered o.answer (with_disc o.disc x)
 
 -- a command that is one of the kernel's calls about a task: the shell prompts, or tells the code
-abbrev pub by_call : Made → ShellTurn → ShellTurn
+abbrev pub by_call : CallChange → ShellTurn → ShellTurn
 by_call m x = answered m.answer (called m x)
 
 -- ---- programs

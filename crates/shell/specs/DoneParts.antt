@@ -11,7 +11,7 @@ use Rattle.kernel_model.specs.declared.kernel_record.numbers.TheConstants.{SHELL
 use Rattle.shell.specs.TurnParts.{ShellTurn}
 
 -- How a turn of the shell begins.
-pub record Start : Type 0 where
+pub record ShellStart : Type 0 where
   -- the console bytes and the log
   pub outside : Outside
   -- for how many words of a store the keeper of kinds has room
@@ -19,7 +19,7 @@ pub record Start : Type 0 where
 
 -- So much is done since then: the store has these words, the keeper knows the words of its lists, and the rest is as the code has it.
 -- The shell still runs.
-pub record IsDone (b : Start) (t : List ℕ) (tells : List ℕ → Type 0) (most : ℕ) (now : Outside) (sh : Shell) (d : Disc) (ends : Bool) (x : ShellTurn) : Type 0 where
+pub record IsDone (b : ShellStart) (t : List ℕ) (tells : List ℕ → Type 0) (most : ℕ) (now : Outside) (sh : Shell) (d : Disc) (ends : Bool) (x : ShellTurn) : Type 0 where
   -- the store is as the parts leave it, and the keeper knows its words
   pub represents : RepresentsStoreWithLists t tells most x.store
   -- the keeper has room for as many words as before
@@ -40,7 +40,7 @@ pub record IsDone (b : Start) (t : List ℕ) (tells : List ℕ → Type 0) (most
   pub is : x.store.lists.running ≡ SHELL
 
 -- and it has its packet, and has not finished the machine
-pub record IsReady (b : Start) (t : List ℕ) (tells : List ℕ → Type 0) (most : ℕ) (now : Outside) (sh : Shell) (d : Disc) (x : ShellTurn) : Type 0 where
+pub record IsReady (b : ShellStart) (t : List ℕ) (tells : List ℕ → Type 0) (most : ℕ) (now : Outside) (sh : Shell) (d : Disc) (x : ShellTurn) : Type 0 where
   -- so much is done, and the machine goes on
   pub done : IsDone b t tells most now sh d false x
   -- the shell has its packet

@@ -4,21 +4,22 @@ use Rattle.kernel_lists.specs.declared.packet_queue.events.KernelEvent.{KernelEv
 use Rattle.kernel_model.specs.KernelRecord.Kernel.{Mode, Shell}
 use Rattle.kernel_model.specs.KernelRecord.Lists.{Lists}
 use Rattle.ram_disc.specs.Disc.{Disc}
-use Rattle.kernel_calls.specs.CallAnswers.Made.{Made}
+use Rattle.kernel_calls.specs.CallAnswers.CallChange.{CallChange}
 use Rattle.kernel_model.specs.KernelRecord.StoreWithLists.{StoreWithLists, left_with, store_with_lists}
 
--- How far a turn of the shell has come.
+-- How far a turn of the shell has come: the store as it is now, the events and the bytes so far as in a ResidentTurn, and what the
+-- shell keeps.
 pub record ShellTurn : Type 0 where
   -- the words of the store and its lists
   pub store : StoreWithLists
+  -- the events so far, in their order
+  pub events : List KernelEvent
+  -- the bytes that went to the console so far
+  pub bytes : List ℕ
   -- what the shell does next, and its line
   pub shell : Shell
   -- the disc
   pub disc : Disc
-  -- the bytes that went to the console so far
-  pub bytes : List ℕ
-  -- the events so far, in their order
-  pub events : List KernelEvent
   -- whether the shell has finished the machine
   pub finished : Bool
 
@@ -43,7 +44,7 @@ abbrev pub and_then : StoreWithLists → List KernelEvent → ShellTurn → Shel
 and_then k events x = record x { store = k; events = x.events ++ events }
 
 -- a call makes this of the lists
-abbrev pub called : Made → ShellTurn → ShellTurn
+abbrev pub called : CallChange → ShellTurn → ShellTurn
 called m x = and_then (left_with x.store.words m.lists m.plain) m.events x
 
 -- a turn writes at most so many bytes: a list of tasks, and a prompt

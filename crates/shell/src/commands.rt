@@ -2,7 +2,7 @@
 ghost use Rattle.std.specs.Prelude.{◌≡◌, ◌+◌, ◌≤◌, length, None};
 ghost use Rattle.kernel_calls.specs.CallAnswers.Outside.{outside};
 ghost use Rattle.ram_disc.specs.Disc.{IsDisc, shell_stream, stream_at};
-ghost use Rattle.shell.specs.DoneParts.{IsDone, IsReady, Start};
+ghost use Rattle.shell.specs.DoneParts.{IsDone, IsReady, ShellStart};
 ghost use Rattle.shell.specs.TurnParts.{ShellTurn, most_shown};
 ghost use Rattle.shell.specs.Commands.{executed, line_executed};
 
@@ -32,10 +32,10 @@ pub(crate) fn execute_line<Q: KindKeeper, L: EventLog>(
     requires room { length bytes.old + most_shown ≤ 8192 }
     requires valid { IsDisc disc.old }
     requires closed { stream_at disc.old shell_stream ≡ None }
-    requires ready { (b : Start) × (x : ShellTurn)
+    requires ready { (b : ShellStart) × (x : ShellTurn)
         × IsReady b store.old (Q.tells kinds.old) (Q.room kinds.old)
         (outside bytes.old (L.noted log.old) (L.has_failed log.old)) state.old disc.old x }
-    ensures done { (b : Start) (x : ShellTurn)
+    ensures done { (b : ShellStart) (x : ShellTurn)
         → IsReady b store.old (Q.tells kinds.old) (Q.room kinds.old)
         (outside bytes.old (L.noted log.old) (L.has_failed log.old)) state.old disc.old x
         → IsDone b store.new (Q.tells kinds.new) (Q.room kinds.new)
@@ -65,10 +65,10 @@ fn execute<Q: KindKeeper, L: EventLog>(
     requires room { length bytes.old + most_shown ≤ 8192 }
     requires valid { IsDisc disc.old }
     requires closed { stream_at disc.old shell_stream ≡ None }
-    requires ready { (b : Start) × (x : ShellTurn)
+    requires ready { (b : ShellStart) × (x : ShellTurn)
         × IsReady b store.old (Q.tells kinds.old) (Q.room kinds.old)
         (outside bytes.old (L.noted log.old) (L.has_failed log.old)) state.old disc.old x }
-    ensures done { (b : Start) (x : ShellTurn)
+    ensures done { (b : ShellStart) (x : ShellTurn)
         → IsReady b store.old (Q.tells kinds.old) (Q.room kinds.old)
         (outside bytes.old (L.noted log.old) (L.has_failed log.old)) state.old disc.old x
         → IsDone b store.new (Q.tells kinds.new) (Q.room kinds.new)

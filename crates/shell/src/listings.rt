@@ -2,7 +2,7 @@
 ghost use Rattle.std.specs.Prelude.{◌+◌, ◌≤◌, false, length};
 ghost use Rattle.kernel_calls.specs.CallAnswers.Outside.{outside};
 ghost use Rattle.ram_disc.specs.Disc.{Disc, IsDisc};
-ghost use Rattle.shell.specs.DoneParts.{IsDone, IsReady, Start};
+ghost use Rattle.shell.specs.DoneParts.{IsDone, IsReady, ShellStart};
 ghost use Rattle.shell.specs.TurnParts.{ShellTurn, most_shown};
 ghost use Rattle.command_lines.specs.declared.commands.Command.TheVariants.{Examine, Map, Status};
 ghost use Rattle.shell.specs.Commands.{executed};
@@ -27,10 +27,10 @@ pub(crate) fn list_files<Q: KindKeeper, L: EventLog>(
 )
     requires valid { IsDisc disc.now }
     requires room { length bytes.old + most_shown ≤ 8192 }
-    requires ready { (b : Start) × (x : ShellTurn)
+    requires ready { (b : ShellStart) × (x : ShellTurn)
         × IsReady b store.old (Q.tells kinds.old) (Q.room kinds.old)
         (outside bytes.old (L.noted log.old) (L.has_failed log.old)) state.old disc.now x }
-    ensures done { (b : Start) (x : ShellTurn)
+    ensures done { (b : ShellStart) (x : ShellTurn)
         → IsReady b store.old (Q.tells kinds.old) (Q.room kinds.old)
         (outside bytes.old (L.noted log.old) (L.has_failed log.old)) state.old disc.now x
         → IsDone b store.new (Q.tells kinds.new) (Q.room kinds.new)
@@ -51,10 +51,10 @@ pub(crate) fn list_tasks<Q: KindKeeper, L: EventLog>(
     log: &mut L,
 )
     requires room { length bytes.old + most_shown ≤ 8192 }
-    requires ready { (b : Start) × (d : Disc) × (x : ShellTurn)
+    requires ready { (b : ShellStart) × (d : Disc) × (x : ShellTurn)
         × IsReady b store.old (Q.tells kinds.old) (Q.room kinds.old)
         (outside bytes.old (L.noted log.old) (L.has_failed log.old)) state.old d x }
-    ensures done { (b : Start) (d : Disc) (x : ShellTurn)
+    ensures done { (b : ShellStart) (d : Disc) (x : ShellTurn)
         → IsReady b store.old (Q.tells kinds.old) (Q.room kinds.old)
         (outside bytes.old (L.noted log.old) (L.has_failed log.old)) state.old d x
         → IsDone b store.new (Q.tells kinds.new) (Q.room kinds.new)
@@ -75,10 +75,10 @@ pub(crate) fn count_blocks<Q: KindKeeper, L: EventLog>(
     log: &mut L,
 )
     requires room { length bytes.old + most_shown ≤ 8192 }
-    requires ready { (b : Start) × (d : Disc) × (x : ShellTurn)
+    requires ready { (b : ShellStart) × (d : Disc) × (x : ShellTurn)
         × IsReady b store.old (Q.tells kinds.old) (Q.room kinds.old)
         (outside bytes.old (L.noted log.old) (L.has_failed log.old)) state.old d x }
-    ensures done { (b : Start) (d : Disc) (x : ShellTurn)
+    ensures done { (b : ShellStart) (d : Disc) (x : ShellTurn)
         → IsReady b store.old (Q.tells kinds.old) (Q.room kinds.old)
         (outside bytes.old (L.noted log.old) (L.has_failed log.old)) state.old d x
         → IsDone b store.new (Q.tells kinds.new) (Q.room kinds.new)

@@ -2,7 +2,7 @@
 ghost use Rattle.std.specs.Prelude.{◌≡◌, ◌+◌, ◌≤◌, false, length};
 ghost use Rattle.kernel_calls.specs.CallAnswers.Outside.{outside};
 ghost use Rattle.ram_disc.specs.Disc.{Disc};
-ghost use Rattle.shell.specs.DoneParts.{IsDone, IsReady, Start};
+ghost use Rattle.shell.specs.DoneParts.{IsDone, IsReady, ShellStart};
 ghost use Rattle.shell.specs.TurnParts.{ShellTurn};
 ghost use Rattle.shell.specs.Commands.{run, run_priority, start};
 
@@ -33,10 +33,10 @@ pub(crate) fn run<Q: KindKeeper, L: EventLog>(
     log: &mut L,
 )
     requires room { length bytes.old + 32 ≤ 8192 }
-    requires ready { (b : Start) × (x : ShellTurn)
+    requires ready { (b : ShellStart) × (x : ShellTurn)
         × IsReady b store.old (Q.tells kinds.old) (Q.room kinds.old)
         (outside bytes.old (L.noted log.old) (L.has_failed log.old)) state.old disc.now x }
-    ensures done { (b : Start) (x : ShellTurn)
+    ensures done { (b : ShellStart) (x : ShellTurn)
         → IsReady b store.old (Q.tells kinds.old) (Q.room kinds.old)
         (outside bytes.old (L.noted log.old) (L.has_failed log.old)) state.old disc.now x
         → IsDone b store.new (Q.tells kinds.new) (Q.room kinds.new)
@@ -78,10 +78,10 @@ pub(crate) fn start<Q: KindKeeper, L: EventLog>(
     log: &mut L,
 )
     requires room { length bytes.old + 32 ≤ 8192 }
-    requires ready { (b : Start) × (x : ShellTurn)
+    requires ready { (b : ShellStart) × (x : ShellTurn)
         × IsReady b store.old (Q.tells kinds.old) (Q.room kinds.old)
         (outside bytes.old (L.noted log.old) (L.has_failed log.old)) state.old disc.now x }
-    ensures done { (b : Start) (x : ShellTurn)
+    ensures done { (b : ShellStart) (x : ShellTurn)
         → IsReady b store.old (Q.tells kinds.old) (Q.room kinds.old)
         (outside bytes.old (L.noted log.old) (L.has_failed log.old)) state.old disc.now x
         → IsDone b store.new (Q.tells kinds.new) (Q.room kinds.new)

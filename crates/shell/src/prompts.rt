@@ -2,7 +2,7 @@
 ghost use Rattle.std.specs.Prelude.{◌+◌, ◌≤◌, false, length};
 ghost use Rattle.kernel_calls.specs.CallAnswers.Outside.{outside};
 ghost use Rattle.ram_disc.specs.Disc.{Disc};
-ghost use Rattle.shell.specs.DoneParts.{IsDone, IsReady, Start};
+ghost use Rattle.shell.specs.DoneParts.{IsDone, IsReady, ShellStart};
 ghost use Rattle.shell.specs.TurnParts.{ShellTurn};
 ghost use Rattle.shell.specs.Prompts.{answered, prompted, refused};
 
@@ -28,10 +28,10 @@ pub(crate) fn prompt<Q: KindKeeper, L: EventLog>(
     log: &mut L,
 )
     requires room { length bytes.old + 2 ≤ 8192 }
-    requires ready { (b : Start) × (d : Disc) × (x : ShellTurn)
+    requires ready { (b : ShellStart) × (d : Disc) × (x : ShellTurn)
         × IsReady b store.old (Q.tells kinds.old) (Q.room kinds.old)
         (outside bytes.old (L.noted log.old) (L.has_failed log.old)) state.old d x }
-    ensures done { (b : Start) (d : Disc) (x : ShellTurn)
+    ensures done { (b : ShellStart) (d : Disc) (x : ShellTurn)
         → IsReady b store.old (Q.tells kinds.old) (Q.room kinds.old)
         (outside bytes.old (L.noted log.old) (L.has_failed log.old)) state.old d x
         → IsDone b store.new (Q.tells kinds.new) (Q.room kinds.new)
@@ -54,10 +54,10 @@ pub(crate) fn refuse<Q: KindKeeper, L: EventLog>(
     log: &mut L,
 )
     requires room { length bytes.old + 32 ≤ 8192 }
-    requires ready { (b : Start) × (d : Disc) × (x : ShellTurn)
+    requires ready { (b : ShellStart) × (d : Disc) × (x : ShellTurn)
         × IsReady b store.old (Q.tells kinds.old) (Q.room kinds.old)
         (outside bytes.old (L.noted log.old) (L.has_failed log.old)) state.old d x }
-    ensures done { (b : Start) (d : Disc) (x : ShellTurn)
+    ensures done { (b : ShellStart) (d : Disc) (x : ShellTurn)
         → IsReady b store.old (Q.tells kinds.old) (Q.room kinds.old)
         (outside bytes.old (L.noted log.old) (L.has_failed log.old)) state.old d x
         → IsDone b store.new (Q.tells kinds.new) (Q.room kinds.new)
@@ -79,10 +79,10 @@ pub(crate) fn answer<Q: KindKeeper, L: EventLog>(
     log: &mut L,
 )
     requires room { length bytes.old + 32 ≤ 8192 }
-    requires ready { (b : Start) × (d : Disc) × (x : ShellTurn)
+    requires ready { (b : ShellStart) × (d : Disc) × (x : ShellTurn)
         × IsReady b store.old (Q.tells kinds.old) (Q.room kinds.old)
         (outside bytes.old (L.noted log.old) (L.has_failed log.old)) state.old d x }
-    ensures done { (b : Start) (d : Disc) (x : ShellTurn)
+    ensures done { (b : ShellStart) (d : Disc) (x : ShellTurn)
         → IsReady b store.old (Q.tells kinds.old) (Q.room kinds.old)
         (outside bytes.old (L.noted log.old) (L.has_failed log.old)) state.old d x
         → IsDone b store.new (Q.tells kinds.new) (Q.room kinds.new)

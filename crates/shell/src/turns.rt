@@ -4,7 +4,7 @@ ghost use Rattle.kernel_calls.specs.CallAnswers.Outside.{outside};
 ghost use Rattle.kernel_model.specs.KernelRecord.Between.{is_typing};
 ghost use Rattle.kernel_model.specs.KernelRecord.Lists.{Lists};
 ghost use Rattle.ram_disc.specs.Disc.{Disc, IsDisc, shell_stream, stream_at};
-ghost use Rattle.shell.specs.DoneParts.{IsDone, IsReady, IsShellTurn, Start};
+ghost use Rattle.shell.specs.DoneParts.{IsDone, IsReady, IsShellTurn, ShellStart};
 ghost use Rattle.shell.specs.ShellTurn.{RunsShell, first_treated, program_ended, return_code, shell_turn, treated_in};
 ghost use Rattle.shell.specs.TurnParts.{ShellTurn, most_shown};
 ghost use Rattle.resident_tasks.specs.declared.resident_requests.requests.Request.{Request};
@@ -75,10 +75,10 @@ fn treat_first<Q: KindKeeper, L: EventLog>(
     requires empty { bytes.old ≡ [] }
     requires valid { IsDisc disc.old }
     requires typing { is_some (stream_at disc.old shell_stream) ≡ is_typing state.old.mode }
-    requires done { (b : Start) × (x : ShellTurn)
+    requires done { (b : ShellStart) × (x : ShellTurn)
         × IsDone b store.old (Q.tells kinds.old) (Q.room kinds.old)
         (outside bytes.old (L.noted log.old) (L.has_failed log.old)) state.old disc.old false x }
-    ensures done { (b : Start) (x : ShellTurn)
+    ensures done { (b : ShellStart) (x : ShellTurn)
         → IsDone b store.old (Q.tells kinds.old) (Q.room kinds.old)
         (outside bytes.old (L.noted log.old) (L.has_failed log.old)) state.old disc.old false x
         → IsDone b store.new (Q.tells kinds.new) (Q.room kinds.new)
@@ -109,10 +109,10 @@ fn treat_own<Q: KindKeeper, L: EventLog>(
     requires empty { bytes.old ≡ [] }
     requires valid { IsDisc disc.old }
     requires typing { is_some (stream_at disc.old shell_stream) ≡ is_typing state.old.mode }
-    requires ready { (b : Start) × (x : ShellTurn)
+    requires ready { (b : ShellStart) × (x : ShellTurn)
         × IsReady b store.old (Q.tells kinds.old) (Q.room kinds.old)
         (outside bytes.old (L.noted log.old) (L.has_failed log.old)) state.old disc.old x }
-    ensures done { (b : Start) (x : ShellTurn)
+    ensures done { (b : ShellStart) (x : ShellTurn)
         → IsReady b store.old (Q.tells kinds.old) (Q.room kinds.old)
         (outside bytes.old (L.noted log.old) (L.has_failed log.old)) state.old disc.old x
         → IsDone b store.new (Q.tells kinds.new) (Q.room kinds.new)
@@ -143,10 +143,10 @@ fn end_program<Q: KindKeeper, L: EventLog>(
     log: &mut L,
 )
     requires empty { bytes.old ≡ [] }
-    requires ready { (b : Start) × (d : Disc) × (x : ShellTurn)
+    requires ready { (b : ShellStart) × (d : Disc) × (x : ShellTurn)
         × IsReady b store.old (Q.tells kinds.old) (Q.room kinds.old)
         (outside bytes.old (L.noted log.old) (L.has_failed log.old)) state.old d x }
-    ensures done { (b : Start) (d : Disc) (x : ShellTurn)
+    ensures done { (b : ShellStart) (d : Disc) (x : ShellTurn)
         → IsReady b store.old (Q.tells kinds.old) (Q.room kinds.old)
         (outside bytes.old (L.noted log.old) (L.has_failed log.old)) state.old d x
         → IsDone b store.new (Q.tells kinds.new) (Q.room kinds.new)

@@ -2,7 +2,7 @@
 ghost use Rattle.std.specs.Prelude.{◌≡◌, ◌+◌, ◌++◌, ◌≤◌, false, length, None};
 ghost use Rattle.kernel_calls.specs.CallAnswers.Outside.{outside};
 ghost use Rattle.ram_disc.specs.Disc.{Disc, shell_stream, stream_at};
-ghost use Rattle.shell.specs.DoneParts.{IsDone, IsReady, Start};
+ghost use Rattle.shell.specs.DoneParts.{IsDone, IsReady, ShellStart};
 ghost use Rattle.shell.specs.TurnParts.{ShellTurn};
 ghost use Rattle.shell.specs.TypedFiles.{after_piece, goes_on, is_typed, next_piece, typed, with_file_typed, with_stream_closed};
 
@@ -34,10 +34,10 @@ pub(crate) fn type_file<Q: KindKeeper, L: EventLog>(
 )
     requires room { length bytes.old + 600 ≤ 8192 }
     requires closed { stream_at disc.old shell_stream ≡ None }
-    requires ready { (b : Start) × (x : ShellTurn)
+    requires ready { (b : ShellStart) × (x : ShellTurn)
         × IsReady b store.old (Q.tells kinds.old) (Q.room kinds.old)
         (outside bytes.old (L.noted log.old) (L.has_failed log.old)) state.old disc.old x }
-    ensures done { (b : Start) (x : ShellTurn)
+    ensures done { (b : ShellStart) (x : ShellTurn)
         → IsReady b store.old (Q.tells kinds.old) (Q.room kinds.old)
         (outside bytes.old (L.noted log.old) (L.has_failed log.old)) state.old disc.old x
         → IsDone b store.new (Q.tells kinds.new) (Q.room kinds.new)
@@ -61,10 +61,10 @@ pub(crate) fn type_on<Q: KindKeeper, L: EventLog>(
     log: &mut L,
 )
     requires room { length bytes.old + 600 ≤ 8192 }
-    requires ready { (b : Start) × (x : ShellTurn)
+    requires ready { (b : ShellStart) × (x : ShellTurn)
         × IsReady b store.old (Q.tells kinds.old) (Q.room kinds.old)
         (outside bytes.old (L.noted log.old) (L.has_failed log.old)) state.old disc.old x }
-    ensures done { (b : Start) (x : ShellTurn)
+    ensures done { (b : ShellStart) (x : ShellTurn)
         → IsReady b store.old (Q.tells kinds.old) (Q.room kinds.old)
         (outside bytes.old (L.noted log.old) (L.has_failed log.old)) state.old disc.old x
         → IsDone b store.new (Q.tells kinds.new) (Q.room kinds.new)
@@ -117,10 +117,10 @@ fn type_later<Q: KindKeeper, L: EventLog>(
     bytes: &Output,
     log: &mut L,
 )
-    requires { (b : Start) × (d : Disc) × (x : ShellTurn)
+    requires { (b : ShellStart) × (d : Disc) × (x : ShellTurn)
         × IsReady b store.old (Q.tells kinds.old) (Q.room kinds.old)
         (outside bytes.now (L.noted log.old) (L.has_failed log.old)) state.old d x }
-    ensures { (b : Start) (d : Disc) (x : ShellTurn)
+    ensures { (b : ShellStart) (d : Disc) (x : ShellTurn)
         → IsReady b store.old (Q.tells kinds.old) (Q.room kinds.old)
         (outside bytes.now (L.noted log.old) (L.has_failed log.old)) state.old d x
         → IsDone b store.new (Q.tells kinds.new) (Q.room kinds.new)

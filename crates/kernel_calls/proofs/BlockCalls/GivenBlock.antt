@@ -15,7 +15,7 @@ use Rattle.kernel_model.specs.KernelRecord.Lists.{Lists, queued}
 use Rattle.kernel_model.proofs.KernelRecord.ChangedLists.{knows-same}
 use Rattle.word_store.proofs.Elements.{find-passes}
 use Rattle.kernel_model.proofs.KernelRecord.FollowedBlocks.{IsWithin, found-within}
-use Rattle.kernel_calls.specs.CallAnswers.Made.{IsMade, Made, done, minus_one, unless_refused}
+use Rattle.kernel_calls.specs.CallAnswers.CallChange.{CallChange, IsMade, done, minus_one, unless_refused}
 use Rattle.kernel_calls.specs.CallAnswers.Refusals.{first_refusal}
 use Rattle.kernel_calls.proofs.CallAnswers.MadeCalls.{made-accepted, made-refused}
 use Rattle.kernel_calls.specs.BlockCalls.Freevec.{IsUsersBlock, freevec, freevec_tests, has_packet_in, holds_packet, is_user, is_users_block, lies_in, with_given}
@@ -23,7 +23,7 @@ use Rattle.kernel_calls.proofs.BlockCalls.IdleBlocks.{idle-unowned, none-idle, u
 use Rattle.kernel_calls.proofs.BlockCalls.TakenStore.{given-changed, given-owners}
 
 module _ (s : List ℕ) (tells : List ℕ → Type 0) (room : ℕ) (l : Lists) (v : ℕ) (k : HasKeeper s tells room l) where
-  abbrev made : Made
+  abbrev made : CallChange
   made = done (with_given v l)
 
   -- else the tests decide

@@ -7,7 +7,7 @@ use Rattle.kernel_lists.specs.GetvecChain.Tiling.{blocks_in}
 use Rattle.kernel_model.specs.KernelRecord.ChangedStore.{Knows}
 use Rattle.kernel_model.specs.KernelRecord.HoldsLists.{HoldsLists}
 use Rattle.kernel_model.specs.KernelRecord.Lists.{Lists}
-use Rattle.kernel_calls.specs.CallAnswers.Made.{IsMade, Made}
+use Rattle.kernel_calls.specs.CallAnswers.CallChange.{CallChange, IsMade}
 use Rattle.kernel_calls.proofs.CallAnswers.FoundTask.{reads}
 use Rattle.kernel_calls.proofs.CallAnswers.MadeCalls.{made-accepted, made-refused}
 use Rattle.kernel_calls.specs.BlockCalls.FreeStore.{data_of_front, data_taken, with_taken}
@@ -15,7 +15,7 @@ use Rattle.kernel_calls.specs.BlockCalls.Getvec.{getvec, getvec_tests}
 use Rattle.kernel_calls.proofs.BlockCalls.TakenStore.{HasTakenBlock, taken-changed}
 
 module _ (s : List ℕ) (l : Lists) (u : ℕ) (h : HoldsLists s l) where
-  abbrev made : Made
+  abbrev made : CallChange
   made = record { answer = Ok (data_taken u l); lists = with_taken u l; plain = []; events = [] }
 
   pub getvec-refused : (tells : List ℕ → Type 0) → Knows tells l → first_run (need u) (blocks_in s) ≡ None → IsMade s s tells (Err 1) (getvec l u)

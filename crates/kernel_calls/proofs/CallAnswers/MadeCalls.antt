@@ -5,9 +5,9 @@ use Rattle.kernel_model.specs.KernelRecord.HoldsLists.{HoldsLists}
 use Rattle.kernel_model.specs.KernelRecord.Lists.{Lists}
 use Rattle.kernel_model.proofs.KernelRecord.ChangedLists.{changed-none}
 use Rattle.kernel_calls.specs.CallAnswers.Refusals.{first_refusal}
-use Rattle.kernel_calls.specs.CallAnswers.Made.{IsMade, Leaves, Made, by_refusal, plain_answer, unless_refused}
+use Rattle.kernel_calls.specs.CallAnswers.CallChange.{CallChange, IsMade, Leaves, by_refusal, plain_answer, unless_refused}
 
-module _ (s : List ℕ) (l : Lists) (tests : List (Bool × ℕ)) (made : Made) where
+module _ (s : List ℕ) (l : Lists) (tests : List (Bool × ℕ)) (made : CallChange) where
   -- refused with the code of the first test that fails, it leaves all as it was
   pub leaves-refused : (code : ℕ) → HoldsLists s l → first_refusal tests ≡ Some code → Leaves s s (Err code) (unless_refused tests l made)
   leaves-refused code h e = subst (λ o. Leaves s s (Err code) (by_refusal o l made)) (sym e) (record { lists = changed-none s l h; answered = refl })
@@ -25,9 +25,9 @@ module _ (s : List ℕ) (l : Lists) (tests : List (Bool × ℕ)) (made : Made) w
 
 -- ---- codes that `?` hands on
 
-pub handed-on : (s t : List ℕ) (tells : List ℕ → Type 0) (r : Result ℕ ℕ) (e code : ℕ) (m : Made) → r ≡ Err e → e ≡ code → IsMade s t tells (Err code) m → IsMade s t tells r m
+pub handed-on : (s t : List ℕ) (tells : List ℕ → Type 0) (r : Result ℕ ℕ) (e code : ℕ) (m : CallChange) → r ≡ Err e → e ≡ code → IsMade s t tells (Err code) m → IsMade s t tells r m
 handed-on s t tells r e code m is same h = subst (λ z. IsMade s t tells z m) (sym (is ∙ ap Err same)) h
 
 -- from a part of a call that has no answer of its own
-pub handed-plain : (s t : List ℕ) (tells : List ℕ → Type 0) (r : Result (Unit {0}) ℕ) (code : ℕ) (m : Made) → r ≡ Err code → IsMade s t tells (Err code) m → IsMade s t tells (plain_answer r) m
+pub handed-plain : (s t : List ℕ) (tells : List ℕ → Type 0) (r : Result (Unit {0}) ℕ) (code : ℕ) (m : CallChange) → r ≡ Err code → IsMade s t tells (Err code) m → IsMade s t tells (plain_answer r) m
 handed-plain s t tells r code m is h = subst (λ z. IsMade s t tells z m) (ap plain_answer (sym is)) h

@@ -22,7 +22,7 @@ use Rattle.kernel_model.proofs.KernelRecord.AllThings.{all-here}
 use Rattle.kernel_model.specs.WordKinds.Keeper.{AreTogether}
 use Rattle.kernel_model.proofs.WordKinds.KnownWords.{knows-released}
 use Rattle.kernel_calls.specs.CallAnswers.Guests.{GuestAt}
-use Rattle.kernel_calls.specs.CallAnswers.Made.{IsMade, Made, done, minus_one, plain_answer}
+use Rattle.kernel_calls.specs.CallAnswers.CallChange.{CallChange, IsMade, done, minus_one, plain_answer}
 use Rattle.kernel_calls.specs.CallAnswers.Refusals.{first_refusal}
 use Rattle.kernel_calls.proofs.CallAnswers.FoundTask.{reads}
 use Rattle.kernel_calls.proofs.CallAnswers.MadeCalls.{made-accepted, made-refused}
@@ -67,7 +67,7 @@ module _ (s : List ℕ) (tells : List ℕ → Type 0) (room : ℕ) (l : Lists) (
   abbrev packet_test : List (Bool × ℕ)
   packet_test = (not (has_packet_in l c), 24) ∷ []
 
-  abbrev made : Made
+  abbrev made : CallChange
   made = done (with_deleted_at c l)
 
   tests-found : (o : Option ℕ) → first_refusal (idle_tests c own) ≡ o → first_refusal (idle_tests c (coroutines_of_caller l)) ≡ o

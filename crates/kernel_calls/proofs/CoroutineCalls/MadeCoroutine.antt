@@ -34,7 +34,7 @@ use Rattle.kernel_model.proofs.KernelRecord.TaskCounts.{owners-coroutine}
 use Rattle.kernel_calls.specs.BlockCalls.FreeStore.{data_of_front, data_taken, has_room, with_taken}
 use Rattle.kernel_calls.proofs.BlockCalls.TakenStore.{HasTakenBlock, taken-changed}
 use Rattle.kernel_calls.specs.CallAnswers.Guests.{GuestAt}
-use Rattle.kernel_calls.specs.CallAnswers.Made.{IsMade}
+use Rattle.kernel_calls.specs.CallAnswers.CallChange.{IsMade}
 use Rattle.kernel_calls.proofs.CallAnswers.FoundTask.{reads}
 use Rattle.kernel_calls.proofs.CallAnswers.MadeCalls.{made-accepted, made-refused}
 use Rattle.kernel_model.specs.WordKinds.Keeper.{AreTogether}

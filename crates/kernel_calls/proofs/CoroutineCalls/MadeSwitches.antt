@@ -35,7 +35,7 @@ use Rattle.kernel_calls.specs.CoroutineCalls.CallersCoroutines.{coroutines_of_ca
 use Rattle.kernel_calls.specs.CoroutineCalls.CoWait.{IsWithin, cowait, ended, wait_tests, with_ended}
 use Rattle.kernel_calls.specs.CoroutineCalls.Refusals.{code_of, coded}
 use Rattle.kernel_calls.specs.CoroutineCalls.ResumeCo.{resume_tests, resumeco, resumed_itself}
-use Rattle.kernel_calls.specs.CoroutineCalls.Switched.{IsSwitched, Switched, by_refusal, refused, entered, handed, switched, unless_refused}
+use Rattle.kernel_calls.specs.CoroutineCalls.SwitchChange.{IsSwitched, SwitchChange, by_refusal, refused, entered, handed, switched, unless_refused}
 use Rattle.kernel_calls.proofs.CoroutineCalls.CallersTask.{AreRewritten, callers-found, callers-held, callers-rewritten, callers-valid}
 use Rattle.kernel_calls.proofs.CoroutineCalls.CodedAnswers.{idle-coded, resume-coded, wait-coded, wait-passed}
 use Rattle.kernel_calls.proofs.CoroutineCalls.SavedFrames.{first-one, regs-read}
@@ -82,13 +82,13 @@ module _ (s : List ℕ) (l : Lists) (t : ℕ) (h : HoldsLists s l) (g : GuestAt 
   tests-found : (tests : TaskCoroutines → List (Bool × ℕ)) (o : Option ℕ) → first_refusal (tests own) ≡ o → first_refusal (tests (coroutines_of_caller l)) ≡ o
   tests-found tests o e = ap (λ k. first_refusal (tests k)) (callers-found s l t h g) ∙ e
 
-  refused-made : (tests : List (Bool × ℕ)) (made : Switched) (v : List ℕ) (after : Regs) (code : ℕ) → first_refusal tests ≡ Some code → (v ≡ s) × (after ≡ r)
+  refused-made : (tests : List (Bool × ℕ)) (made : SwitchChange) (v : List ℕ) (after : Regs) (code : ℕ) → first_refusal tests ≡ Some code → (v ≡ s) × (after ≡ r)
       → IsSwitched s v l after (Err code) (unless_refused tests l r made)
   refused-made tests made v after code e kept =
       subst (λ o. IsSwitched s v l after (Err code) (by_refusal o l r made)) (sym e)
       (subst (λ z. IsSwitched s z l after (Err code) (refused l r code)) (sym kept.0) (record { lists = changed-none s l h; regs = kept.1; answered = refl; same = λ a. refl }))
 
-  accepted-made : (tests : List (Bool × ℕ)) (made : Switched) (v : List ℕ) (after : Regs) → first_refusal tests ≡ None → IsSwitched s v l after (Ok tt) made
+  accepted-made : (tests : List (Bool × ℕ)) (made : SwitchChange) (v : List ℕ) (after : Regs) → first_refusal tests ≡ None → IsSwitched s v l after (Ok tt) made
       → IsSwitched s v l after (Ok tt) (unless_refused tests l r made)
   accepted-made tests made v after e done = subst (λ o. IsSwitched s v l after (Ok tt) (by_refusal o l r made)) (sym e) done
 
@@ -130,7 +130,7 @@ module _ (s : List ℕ) (l : Lists) (t : ℕ) (h : HoldsLists s l) (g : GuestAt 
 
   -- ---- resumeco
 
-  abbrev resumes : ℕ → ℕ → Switched
+  abbrev resumes : ℕ → ℕ → SwitchChange
   resumes c w = cond (eqb (current_of (coroutines_of_caller l)) c) (resumed_itself w l r) (switched (with_resumed c r.p r.pc) w l r)
 
   resumes-is : (c w : ℕ) (b : Bool) → eqb (current_of own) c ≡ b → resumes c w ≡ cond b (resumed_itself w l r) (switched (with_resumed c r.p r.pc) w l r)

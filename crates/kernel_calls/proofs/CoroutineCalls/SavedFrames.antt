@@ -14,7 +14,7 @@ use Rattle.kernel_lists.specs.Coroutines.Switch as store
 use Rattle.kernel_lists.proofs.Coroutines.Switches.{saved-known}
 use Rattle.kernel_model.proofs.KernelRecord.EachMember.{all-addresses, holds-each}
 use Rattle.kernel_calls.specs.CoroutineCalls.CallersCoroutines.{is_one_of}
-use Rattle.kernel_calls.specs.CoroutineCalls.Switched.{entered, of_one, p_of, pc_of}
+use Rattle.kernel_calls.specs.CoroutineCalls.SwitchChange.{entered, of_one, p_of, pc_of}
 
 -- 0, which names the root, or one of the coroutines
 abbrev pub IsRootOr : ℕ → TaskCoroutines → Type 0

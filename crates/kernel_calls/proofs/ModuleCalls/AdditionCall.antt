@@ -12,7 +12,7 @@ use Rattle.kernel_model.specs.KernelRecord.Task.{globals_of}
 use Rattle.kernel_model.specs.KernelRecord.Versions.{most_modules_of}
 use Rattle.kernel_model.proofs.KernelRecord.ChangedLists.{changed-then, knows-same}
 use Rattle.kernel_calls.specs.CallAnswers.Guests.{GuestAt, guest_tests}
-use Rattle.kernel_calls.specs.CallAnswers.Made.{IsMade, Made}
+use Rattle.kernel_calls.specs.CallAnswers.CallChange.{CallChange, IsMade}
 use Rattle.kernel_calls.specs.CallAnswers.Refusals.{first_refusal}
 use Rattle.kernel_calls.proofs.CallAnswers.MadeCalls.{made-accepted, made-refused}
 use Rattle.kernel_calls.proofs.CallAnswers.Refusals.{first_refusal-failed, first_refusal-passed}
@@ -23,7 +23,7 @@ use Rattle.kernel_calls.proofs.ModuleCalls.AdditionTests.{IsChecked, checks-pass
 use Rattle.kernel_calls.proofs.ModuleCalls.TaskGlobals.{globals-are, globals-told, task-is}
 
 module _ (s : List ℕ) (tells : List ℕ → Type 0) (room : ℕ) (l : Lists) (id m : ℕ) (k : HasKeeper s tells room l) where
-  abbrev made : Made
+  abbrev made : CallChange
   made =
       record {
         answer = Ok (modules_so_far (task_of id l) + 1);

@@ -35,7 +35,7 @@ use Rattle.kernel_model.proofs.KernelRecord.ListRanges.{HasCount}
 use Rattle.kernel_model.proofs.KernelRecord.ModuleMoves.{gone_module-unowned, gone_module-valid, owners-module}
 use Rattle.kernel_model.proofs.KernelRecord.UnownedBlocks.{unowned-user}
 use Rattle.kernel_model.proofs.KernelRecord.WalkedLists.{counts-read}
-use Rattle.kernel_calls.specs.CallAnswers.Made.{IsMade, Made, done, minus_one}
+use Rattle.kernel_calls.specs.CallAnswers.CallChange.{CallChange, IsMade, done, minus_one}
 use Rattle.kernel_calls.specs.CallAnswers.Refusals.{first_refusal}
 use Rattle.kernel_calls.proofs.CallAnswers.FoundTask.{reads}
 use Rattle.kernel_calls.proofs.CallAnswers.MadeCalls.{made-accepted, made-refused}
@@ -201,7 +201,7 @@ module _ (s : List ℕ) (l : Lists) (m : ℕ) (h : HoldsLists s l) (some : has_m
 
     -- ---- the call
 
-    abbrev made : Made
+    abbrev made : CallChange
     made = done (with_given m (without_module m l))
 
     tests-are : (x : Bool) → list_any (lies_in own_block) (queued l) ≡ x → first_refusal (unload_tests l m) ≡ cond (not x) None (Some 7)

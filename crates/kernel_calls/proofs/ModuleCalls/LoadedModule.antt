@@ -27,7 +27,7 @@ use Rattle.kernel_model.specs.KernelRecord.ValidLists.{AreValid}
 use Rattle.kernel_model.proofs.KernelRecord.ChangedLists.{exchange-changed}
 use Rattle.kernel_model.proofs.KernelRecord.DataInside.{HasBlock-inside}
 use Rattle.kernel_model.proofs.KernelRecord.ModuleMoves.{new_module-valid, owners-module}
-use Rattle.kernel_calls.specs.CallAnswers.Made.{IsMade, Made}
+use Rattle.kernel_calls.specs.CallAnswers.CallChange.{CallChange, IsMade}
 use Rattle.kernel_calls.proofs.CallAnswers.ChangedTwice.{changed-twice}
 use Rattle.kernel_calls.proofs.CallAnswers.FoundTask.{reads}
 use Rattle.kernel_calls.proofs.CallAnswers.MadeCalls.{made-accepted, made-refused}
@@ -129,7 +129,7 @@ module _ (s t text : List ℕ) (l : Lists) (m : ℕ) (h : HoldsLists s l) (is_lo
       made-accepted s l (load_tests l hunks) made t told (Ok m) (ap (λ o. cond (is_some o) None (Some 1)) taken.first)
       (record { leaves = record { lists = load-changed; answered = ap Ok (taken.front ∙ ap data_of_front (sym taken.first)) }; knows = load-knows tells told n is knows claim })
     where
-      made : Made
+      made : CallChange
       made = record { answer = Ok (loaded_at hunks l); lists = with_loaded hunks l; plain = hunk_words (loaded_at hunks l) hunks; events = [] }
 
   -- its words are in the store
@@ -143,5 +143,5 @@ pub load-refused : (s : List ℕ) (l : Lists) (hunks : List Hunk) (tells : List 
 load-refused s l hunks tells h knows none =
     made-refused s l (load_tests l hunks) made tells 1 h knows (ap (λ o. cond (is_some o) None (Some 1)) (ap (first_run (need (last_word hunks))) (sym (reads s l h).blocks) ∙ none))
   where
-    made : Made
+    made : CallChange
     made = record { answer = Ok (loaded_at hunks l); lists = with_loaded hunks l; plain = hunk_words (loaded_at hunks l) hunks; events = [] }

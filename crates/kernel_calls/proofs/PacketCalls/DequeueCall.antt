@@ -23,7 +23,7 @@ use Rattle.kernel_model.proofs.KernelRecord.PacketMoves.{unqueued-unowned, unque
 use Rattle.kernel_model.proofs.KernelRecord.QueuePlaces.{place-there}
 use Rattle.kernel_model.specs.WordKinds.Keeper.{AreTogether}
 use Rattle.kernel_model.proofs.WordKinds.KnownWords.{knows-released}
-use Rattle.kernel_calls.specs.CallAnswers.Made.{IsMade, by_refusal}
+use Rattle.kernel_calls.specs.CallAnswers.CallChange.{IsMade, by_refusal}
 use Rattle.kernel_calls.specs.CallAnswers.Refusals.{first_refusal}
 use Rattle.kernel_calls.proofs.CallAnswers.MadeCalls.{made-accepted, made-refused}
 use Rattle.kernel_calls.specs.PacketCalls.Destinations.{is_destination, queue_for}

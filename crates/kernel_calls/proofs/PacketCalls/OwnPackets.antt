@@ -32,7 +32,7 @@ use Rattle.kernel_model.proofs.KernelRecord.ReadQueues.{packets-some}
 use Rattle.kernel_model.proofs.KernelRecord.ResidentPackets.{key_queued-valid}
 use Rattle.kernel_model.specs.WordKinds.Keeper.{AreTogether}
 use Rattle.kernel_model.proofs.WordKinds.KnownWords.{knows-claimed}
-use Rattle.kernel_calls.specs.CallAnswers.Made.{IsMade, minus_one}
+use Rattle.kernel_calls.specs.CallAnswers.CallChange.{IsMade, minus_one}
 use Rattle.kernel_calls.proofs.CallAnswers.FoundTask.{reads}
 use Rattle.kernel_calls.proofs.CallAnswers.RootTold.{tick-told}
 use Rattle.kernel_calls.specs.PacketCalls.Destinations.{destination_of, queue_for}

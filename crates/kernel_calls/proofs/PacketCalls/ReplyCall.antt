@@ -20,7 +20,7 @@ use Rattle.kernel_model.specs.KernelRecord.ValidQueues.{Place}
 use Rattle.kernel_model.specs.KernelRecord.ValidQueues.Place.{Work}
 use Rattle.kernel_model.specs.KernelRecord.ValidTasks.{IsField}
 use Rattle.kernel_model.proofs.KernelRecord.NotedInTurn.{notes-one}
-use Rattle.kernel_calls.specs.CallAnswers.Made.{Leaves, minus_one}
+use Rattle.kernel_calls.specs.CallAnswers.CallChange.{Leaves, minus_one}
 use Rattle.kernel_calls.proofs.CallAnswers.FoundTask.{Finds, find-task, found-address}
 use Rattle.kernel_calls.specs.PacketCalls.Destinations.{queue_for}
 use Rattle.kernel_calls.specs.PacketCalls.QueueWords.{head_of, enqueued, with_results}

@@ -18,7 +18,7 @@ use Rattle.kernel_model.specs.WordKinds.Keeper.{AreTogether}
 use Rattle.kernel_model.proofs.WordKinds.KnownWords.{knows-claimed}
 use Rattle.kernel_calls.specs.CallAnswers.Callers.{HasCaller}
 use Rattle.kernel_calls.specs.CallAnswers.Guests.{GuestAt}
-use Rattle.kernel_calls.specs.CallAnswers.Made.{IsMade, by_refusal, minus_one}
+use Rattle.kernel_calls.specs.CallAnswers.CallChange.{IsMade, by_refusal, minus_one}
 use Rattle.kernel_calls.specs.CallAnswers.Refusals.{first_refusal}
 use Rattle.kernel_calls.proofs.CallAnswers.MadeCalls.{made-accepted, made-refused}
 use Rattle.kernel_calls.proofs.CallAnswers.Refusals.{first_refusal-failed, first_refusal-passed}

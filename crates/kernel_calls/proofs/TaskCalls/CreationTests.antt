@@ -18,7 +18,7 @@ use Rattle.word_store.proofs.Elements.{find-passes}
 use Rattle.kernel_model.proofs.KernelRecord.EachMember.{all-each}
 use Rattle.kernel_model.proofs.KernelRecord.RootCounts.{highest-low}
 use Rattle.kernel_model.proofs.KernelRecord.TaskPlaces.{TaskPlace, task-places}
-use Rattle.kernel_calls.specs.CallAnswers.Made.{IsMade, Made, by_refusal, unless_refused}
+use Rattle.kernel_calls.specs.CallAnswers.CallChange.{CallChange, IsMade, by_refusal, unless_refused}
 use Rattle.kernel_calls.specs.CallAnswers.Refusals.{first_refusal}
 use Rattle.kernel_calls.proofs.CallAnswers.FoundTask.{reads}
 use Rattle.kernel_calls.proofs.CallAnswers.MadeCalls.{made-refused}
@@ -60,7 +60,7 @@ module _ (s : List ℕ) (l : Lists) (id : ℕ) (ms : List ℕ) (u pri maker : �
   first-is : first_refusal of_modules ≡ first_refusal of_lists
   first-is = ap (λ z. first_refusal ((not (list_any (λ m. not (has m z)) ms), 17) ∷ [])) modules-are
 
-  abbrev made : Made
+  abbrev made : CallChange
   made = with_created s l (new_task l (unwrap_or (number_of l id) 0) ms u pri maker)
 
   abbrev refuses : ℕ → Type 0

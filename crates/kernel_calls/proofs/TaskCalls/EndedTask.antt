@@ -50,7 +50,7 @@ use Rattle.kernel_model.proofs.KernelRecord.TaskKind.{are_tasks}
 use Rattle.kernel_model.proofs.KernelRecord.UnownedBlocks.{unowned-user}
 use Rattle.kernel_model.specs.WordKinds.Keeper.{AreTogether}
 use Rattle.kernel_model.proofs.WordKinds.KnownWords.{knows-released}
-use Rattle.kernel_calls.specs.CallAnswers.Made.{IsMade, done, minus_one}
+use Rattle.kernel_calls.specs.CallAnswers.CallChange.{IsMade, done, minus_one}
 use Rattle.kernel_calls.specs.CallAnswers.Refusals.{first_refusal}
 use Rattle.kernel_calls.proofs.CallAnswers.Refusals.{low-resident}
 use Rattle.kernel_calls.proofs.CallAnswers.FoundTask.{any-one, reads}

@@ -16,7 +16,7 @@ use Rattle.kernel_model.specs.KernelRecord.Task.{task_address}
 use Rattle.kernel_model.specs.KernelRecord.ValidBlocks.{HasBlock}
 use Rattle.kernel_model.proofs.KernelRecord.DataInside.{HasBlock-inside}
 use Rattle.kernel_model.proofs.KernelRecord.TakenBlocks.{take-valid, taken-block, taken-unowned}
-use Rattle.kernel_calls.specs.CallAnswers.Made.{IsMade, Made, by_refusal}
+use Rattle.kernel_calls.specs.CallAnswers.CallChange.{CallChange, IsMade, by_refusal}
 use Rattle.kernel_calls.specs.BlockCalls.FreeStore.{data_of_front, data_taken, has_room, with_taken}
 use Rattle.kernel_calls.specs.BlockCalls.Getvec.{getvec}
 use Rattle.kernel_model.proofs.WordKinds.OwnedMarks.{size-low}
@@ -26,7 +26,7 @@ use Rattle.kernel_calls.specs.TaskCalls.CreateTask.{last_word_of}
 -- ---- what was taken
 
 module _ (s t : List ℕ) (l : Lists) (u v : ℕ) (told : List ℕ → Type 0) (valid : AreValid l) (m : IsMade s t told (Ok v) (getvec l u)) where
-  abbrev made : Made
+  abbrev made : CallChange
   made = record { answer = Ok (data_taken u l); lists = with_taken u l; plain = []; events = [] }
 
   pub took-block : HasTakenBlock s t l u v × Knows told (with_taken u l)

@@ -49,7 +49,7 @@ use Rattle.kernel_model.proofs.KernelRecord.RootCounts.{head-low}
 use Rattle.kernel_model.proofs.KernelRecord.UnownedBlocks.{unowned-user}
 use Rattle.kernel_model.specs.WordKinds.Keeper.{AreTogether}
 use Rattle.kernel_model.proofs.WordKinds.KnownWords.{knows-claimed}
-use Rattle.kernel_calls.specs.CallAnswers.Made.{IsMade}
+use Rattle.kernel_calls.specs.CallAnswers.CallChange.{IsMade}
 use Rattle.kernel_calls.proofs.CallAnswers.ChangedTwice.{changed-twice}
 use Rattle.kernel_calls.proofs.CallAnswers.FoundTask.{reads}
 use Rattle.kernel_calls.proofs.CallAnswers.MadeCalls.{made-accepted}

@@ -11,7 +11,7 @@ use Rattle.kernel_model.specs.KernelRecord.Task.{Task, state_word, task_address,
 use Rattle.kernel_model.proofs.KernelRecord.ChangedLists.{one_task-owned, owners-exchanged}
 use Rattle.kernel_calls.specs.CallAnswers.Callers.{HasCaller}
 use Rattle.kernel_calls.specs.CallAnswers.Guests.{GuestAt, guest_tests}
-use Rattle.kernel_calls.specs.CallAnswers.Made.{Made, by_refusal, done}
+use Rattle.kernel_calls.specs.CallAnswers.CallChange.{CallChange, by_refusal, done}
 use Rattle.kernel_calls.specs.CallAnswers.Refusals.{first_refusal}
 use Rattle.kernel_calls.proofs.CallAnswers.Refusals.{first_refusal-front, first_refusal-passed, guest-at, guest-parts}
 use Rattle.kernel_calls.proofs.CallAnswers.RunningTask.{caller-at, there-at}
@@ -27,7 +27,7 @@ use Rattle.kernel_calls.proofs.TaskCalls.Flagged.{flags-exchange}
 use Rattle.kernel_calls.proofs.TaskCalls.Held.{state-exchange}
 
 -- refused or not
-refused-owners : (l : Lists) (made : Made) (a : ℕ) (o : Option ℕ) → (o ≡ None → owners a (owned made.lists) ≡ owners a (owned l)) → owners a (owned (by_refusal o l made).lists) ≡ owners a (owned l)
+refused-owners : (l : Lists) (made : CallChange) (a : ℕ) (o : Option ℕ) → (o ≡ None → owners a (owned made.lists) ≡ owners a (owned l)) → owners a (owned (by_refusal o l made).lists) ≡ owners a (owned l)
 refused-owners l made a None same = same refl
 refused-owners l made a (Some code) same = refl
 
@@ -45,7 +45,7 @@ module _ (s : List ℕ) (l : Lists) (h : HoldsLists s l) (a : ℕ) where
       refl)
 
   -- of the guest that was found
-  guest-owners : (id : ℕ) (rest : List (Bool × ℕ)) (made : Made) → ((address : ℕ) → GuestAt l id address → first_refusal rest ≡ None → owners a (owned made.lists) ≡ owners a (owned l))
+  guest-owners : (id : ℕ) (rest : List (Bool × ℕ)) (made : CallChange) → ((address : ℕ) → GuestAt l id address → first_refusal rest ≡ None → owners a (owned made.lists) ≡ owners a (owned l))
       → owners a (owned (by_refusal (first_refusal (guest_tests l id ++ rest)) l made).lists) ≡ owners a (owned l)
   guest-owners id rest made same =
       refused-owners l made a (first_refusal (guest_tests l id ++ rest))

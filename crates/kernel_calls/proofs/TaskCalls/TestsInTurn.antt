@@ -1,7 +1,7 @@
 -- Tests one after the other, and calls that are refused by the same ones.
 use Rattle.std.proofs.Common.{◌≡◌, ℕ, List, [], ◌∷◌, ◌++◌, cond, Bool, true, false, Option, Some, None, Result, Ok, Err, refl, ◌∙◌}
 use Rattle.kernel_model.specs.KernelRecord.Lists.{Lists}
-use Rattle.kernel_calls.specs.CallAnswers.Made.{IsMade, Made, by_refusal, unless_refused}
+use Rattle.kernel_calls.specs.CallAnswers.CallChange.{CallChange, IsMade, by_refusal, unless_refused}
 use Rattle.kernel_calls.specs.CallAnswers.Refusals.{first_refusal}
 
 -- tests in two parts
@@ -15,7 +15,7 @@ all-passed (x ∷ xs) ys e = on x.0 e (all-passed xs ys)
     on false e more = cc
 
 -- what refuses one call refuses another one with the same tests
-pub refused-alike : (s v : List ℕ) (tells : List ℕ → Type 0) (l : Lists) (tests : List (Bool × ℕ)) (code a : ℕ) (made other : Made) → made.answer ≡ Ok a
+pub refused-alike : (s v : List ℕ) (tells : List ℕ → Type 0) (l : Lists) (tests : List (Bool × ℕ)) (code a : ℕ) (made other : CallChange) → made.answer ≡ Ok a
     → IsMade s v tells (Err code) (unless_refused tests l made) → IsMade s v tells (Err code) (unless_refused tests l other)
 refused-alike s v tells l tests code a made other is = on (first_refusal tests)
   where

@@ -11,7 +11,7 @@ use Rattle.kernel_model.specs.declared.kernel_record.uses.Use.{Use}
 use Rattle.kernel_model.specs.declared.kernel_record.uses.Use.TheVariants.{Free, OfCoroutine, OfModule, OfResidents, OfTask, User}
 use Rattle.kernel_model.specs.KernelRecord.Changes.{with_blocks}
 use Rattle.kernel_model.specs.KernelRecord.Lists.{Lists, queued}
-use Rattle.kernel_calls.specs.CallAnswers.Made.{Made, done, unless_refused}
+use Rattle.kernel_calls.specs.CallAnswers.CallChange.{CallChange, done, unless_refused}
 
 -- a block of a user, and of nothing that the lists have
 abbrev pub is_user : Use → Bool
@@ -53,5 +53,5 @@ abbrev pub with_given : ℕ → Lists → Lists
 with_given v l = with_blocks (given v l.blocks) l
 
 -- no block begins at 0, and to give none back is no error
-abbrev pub freevec : Lists → ℕ → Made
+abbrev pub freevec : Lists → ℕ → CallChange
 freevec l v = if v == 0 then done l else unless_refused (freevec_tests l v) l (done (with_given v l))

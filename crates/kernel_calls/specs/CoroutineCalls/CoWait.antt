@@ -5,14 +5,14 @@ use Rattle.kernel_lists.specs.Coroutines.CoroutineExchanges.{TaskCoroutines, cur
 use Rattle.kernel_lists.specs.Coroutines.CoroutineWords.{bottom}
 use Rattle.kernel_model.specs.KernelRecord.Lists.{Lists}
 use Rattle.kernel_calls.specs.CoroutineCalls.CallersCoroutines.{coroutines_of_caller, is_within}
-use Rattle.kernel_calls.specs.CoroutineCalls.Switched.{Switched, switched, unless_refused}
+use Rattle.kernel_calls.specs.CoroutineCalls.SwitchChange.{SwitchChange, switched, unless_refused}
 
 -- the caller is not in its root (code 23)
 abbrev pub wait_tests : TaskCoroutines → List (Bool × ℕ)
 wait_tests k = (is_within k, 23) ∷ []
 
 -- the current one has no parent any more, and its parent goes on with v
-abbrev pub cowait : Lists → Regs → ℕ → Switched
+abbrev pub cowait : Lists → Regs → ℕ → SwitchChange
 cowait l r v = unless_refused (wait_tests (coroutines_of_caller l)) l r (switched (with_waiting r.p r.pc) v l r)
 
 -- the running task is not in its root
@@ -24,5 +24,5 @@ abbrev pub with_ended : TaskCoroutines → TaskCoroutines
 with_ended k = with_waiting (bottom (current_of k)) (function_of (current_of k) k.list) k
 
 -- the function of the current coroutine has returned: its parent goes on with what A holds
-abbrev pub ended : Lists → Regs → Switched
+abbrev pub ended : Lists → Regs → SwitchChange
 ended l r = switched with_ended r.a l r

@@ -5,7 +5,7 @@ use Rattle.kernel_lists.specs.Coroutines.CoroutineExchanges.{TaskCoroutines, wit
 use Rattle.kernel_lists.specs.declared.getvec_chain.pieces.Block.{Block}
 use Rattle.kernel_lists.specs.GetvecChain.Tiling.{used_at}
 use Rattle.kernel_model.specs.KernelRecord.Lists.{Lists}
-use Rattle.kernel_calls.specs.CallAnswers.Made.{Made, done, unless_refused}
+use Rattle.kernel_calls.specs.CallAnswers.CallChange.{CallChange, done, unless_refused}
 use Rattle.kernel_calls.specs.CoroutineCalls.CallCo.{idle_tests}
 use Rattle.kernel_calls.specs.CoroutineCalls.CallersCoroutines.{coroutines_of_caller, with_callers}
 
@@ -23,7 +23,7 @@ abbrev pub with_deleted_at : ℕ → Lists → Lists
 with_deleted_at c l = with_given c (with_callers (with_deleted c) l)
 
 -- The coroutine at c goes, unless it is refused; the answer is -1.
-abbrev pub deleteco : Lists → ℕ → Made
+abbrev pub deleteco : Lists → ℕ → CallChange
 deleteco l c = unless_refused (delete_tests l c) l (done (with_deleted_at c l))
 
 -- at c begin the data of a used block with room for a coroutine's own words

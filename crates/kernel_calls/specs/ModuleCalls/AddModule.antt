@@ -11,7 +11,7 @@ use Rattle.kernel_model.specs.KernelRecord.Task.{Task, globals_of}
 use Rattle.kernel_model.specs.KernelRecord.Versions.{most_modules_of}
 use Rattle.kernel_calls.specs.CallAnswers.Guests.{guest_tests}
 use Rattle.kernel_calls.specs.CallAnswers.Refusals.{first_refusal}
-use Rattle.kernel_calls.specs.CallAnswers.Made.{Made, unless_refused}
+use Rattle.kernel_calls.specs.CallAnswers.CallChange.{CallChange, unless_refused}
 use Rattle.kernel_calls.specs.CallAnswers.Tasks.{is_dead}
 use Rattle.kernel_calls.specs.CallAnswers.Modules.{has_module}
 
@@ -73,7 +73,7 @@ global_words g [] = []
 global_words g (x ∷ xs) = global_words g xs ++ (g + x.number, x.value) ∷ []
 
 -- the answer is how many modules the task has then
-abbrev pub add_module : List ℕ → Lists → ℕ → ℕ → Made
+abbrev pub add_module : List ℕ → Lists → ℕ → ℕ → CallChange
 add_module s l id m =
     unless_refused (addition_tests s l id m) l
     (record {

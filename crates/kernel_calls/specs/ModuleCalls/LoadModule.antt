@@ -5,7 +5,7 @@ use Rattle.kernel_lists.specs.HunkLoader.ModuleExchanges.{hunk_words, loaded_mod
 use Rattle.kernel_lists.specs.HunkLoader.ModuleRow.{last_word}
 use Rattle.kernel_model.specs.KernelRecord.Changes.{with_modules}
 use Rattle.kernel_model.specs.KernelRecord.Lists.{Lists}
-use Rattle.kernel_calls.specs.CallAnswers.Made.{Made, unless_refused}
+use Rattle.kernel_calls.specs.CallAnswers.CallChange.{CallChange, unless_refused}
 use Rattle.kernel_calls.specs.BlockCalls.FreeStore.{data_taken, has_room, with_taken}
 
 -- where the module of these hunks will be
@@ -21,7 +21,7 @@ abbrev pub load_tests : Lists → List Hunk → List (Bool × ℕ)
 load_tests l hunks = (has_room (last_word hunks) l, 1) ∷ []
 
 -- A module is loaded, unless there is no room. Its relocated words are written as plain ones, and its address is the answer.
-abbrev pub load_module : Lists → List Hunk → Made
+abbrev pub load_module : Lists → List Hunk → CallChange
 load_module l hunks =
     unless_refused (load_tests l hunks) l
     (record { answer = Ok (loaded_at hunks l); lists = with_loaded hunks l; plain = hunk_words (loaded_at hunks l) hunks; events = [] })

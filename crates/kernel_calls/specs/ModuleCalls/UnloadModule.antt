@@ -4,7 +4,7 @@ use Rattle.std.specs.List.{list_any}
 use Rattle.kernel_lists.specs.LinkedList.Places.{has, without_first}
 use Rattle.kernel_model.specs.KernelRecord.Changes.{with_modules}
 use Rattle.kernel_model.specs.KernelRecord.Lists.{Lists}
-use Rattle.kernel_calls.specs.CallAnswers.Made.{Made, done, unless_refused}
+use Rattle.kernel_calls.specs.CallAnswers.CallChange.{CallChange, done, unless_refused}
 use Rattle.kernel_calls.specs.CallAnswers.Modules.{has_module}
 use Rattle.kernel_calls.specs.BlockCalls.Freevec.{has_packet_in, with_given}
 
@@ -25,5 +25,5 @@ abbrev pub without_module : ℕ → Lists → Lists
 without_module m l = with_modules (without_first (λ x. m == x.address) l.modules) l
 
 -- The module goes, and its block is given back, unless it is refused; the answer is -1.
-abbrev pub unload_module : Lists → ℕ → Made
+abbrev pub unload_module : Lists → ℕ → CallChange
 unload_module l m = unless_refused (unload_tests l m) l (done (with_given m (without_module m l)))

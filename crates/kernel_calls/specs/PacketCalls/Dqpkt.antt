@@ -7,7 +7,7 @@ use Rattle.kernel_model.specs.KernelRecord.Changes.{queue_of}
 use Rattle.kernel_model.specs.KernelRecord.Lists.{Lists}
 use Rattle.kernel_model.specs.KernelRecord.ValidQueues.{Place, is_fault_at, is_key_at}
 use Rattle.kernel_model.specs.KernelRecord.ValidQueues.Place.{Pending, Work}
-use Rattle.kernel_calls.specs.CallAnswers.Made.{Made, done, unless_refused}
+use Rattle.kernel_calls.specs.CallAnswers.CallChange.{CallChange, done, unless_refused}
 use Rattle.kernel_calls.specs.PacketCalls.Destinations.{is_destination, place_of, queue_for}
 use Rattle.kernel_calls.specs.PacketCalls.PacketMoves.{is_on_queue, with_departed}
 use Rattle.kernel_calls.specs.declared.packet_calls.dequeue.Found.{Found}
@@ -58,7 +58,7 @@ abbrev pub dqpkt_tests : Lists → ℕ → ℕ → List (Bool × ℕ)
 dqpkt_tests l id p = (is_destination l id, 4) ∷ (is_some (found_in l id p), 19) ∷ (not (is_residents_packet l p), 14) ∷ []
 
 -- Where a queue has it: the packet is on no queue then, and its word 1 is the answer. Where none has it, the call is refused.
-abbrev pub dequeued : ℕ → Option Search → Lists → Made
+abbrev pub dequeued : ℕ → Option Search → Lists → CallChange
 dequeued p None l = done l
 dequeued p (Some w) l = record {
   answer = Ok w.answer;
@@ -68,5 +68,5 @@ dequeued p (Some w) l = record {
 }
 
 -- The packet at p goes out of the queue that `id` names, or else out of that of the running task, unless it is refused.
-abbrev pub dqpkt : Lists → ℕ → ℕ → Made
+abbrev pub dqpkt : Lists → ℕ → ℕ → CallChange
 dqpkt l id p = unless_refused (dqpkt_tests l id p) l (dequeued p (found_in l id p) l)

@@ -10,7 +10,7 @@ use Rattle.kernel_lists.specs.PacketQueue.Queue.{no_queue}
 use Rattle.kernel_lists.specs.declared.packet_queue.events.KernelEvent.TheVariants.{Accepted}
 use Rattle.kernel_model.specs.KernelRecord.Lists.{Lists}
 use Rattle.kernel_model.specs.KernelRecord.Owned.{owned}
-use Rattle.kernel_calls.specs.CallAnswers.Made.{Made, minus_one, unless_refused}
+use Rattle.kernel_calls.specs.CallAnswers.CallChange.{CallChange, minus_one, unless_refused}
 use Rattle.kernel_calls.specs.PacketCalls.Destinations.{is_destination, place_of}
 use Rattle.kernel_calls.specs.PacketCalls.PacketMoves.{sent_packet, with_arrived}
 
@@ -32,7 +32,7 @@ abbrev pub qpkt_tests : List ℕ → Lists → ℕ → List (Bool × ℕ)
 qpkt_tests s l p = packet_tests s l p ++ (is_destination l (slice_index s (p + 1)), 4) ∷ []
 
 -- The packet comes into the queue that its word 1 names, from the task that calls.
-abbrev pub sent_to : ℕ → List ℕ → Lists → ℕ → Made
+abbrev pub sent_to : ℕ → List ℕ → Lists → ℕ → CallChange
 sent_to number s l p = record {
   answer = Ok minus_one;
   lists = with_arrived (place_of number) (sent_packet s l (place_of number) p l.running) l;
@@ -41,5 +41,5 @@ sent_to number s l p = record {
 }
 
 -- The packet at p goes to the queue that its word 1 names, from the running task, unless it is refused.
-abbrev pub qpkt : List ℕ → Lists → ℕ → Made
+abbrev pub qpkt : List ℕ → Lists → ℕ → CallChange
 qpkt s l p = unless_refused (qpkt_tests s l p) l (sent_to (slice_index s (p + 1)) s l p)

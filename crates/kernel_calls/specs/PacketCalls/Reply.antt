@@ -8,7 +8,7 @@ use Rattle.kernel_model.specs.KernelRecord.Lists.{Lists, has_task}
 use Rattle.kernel_model.specs.KernelRecord.ValidBlocks.{AreData}
 use Rattle.kernel_model.specs.KernelRecord.ValidQueues.{HasSender}
 use Rattle.kernel_model.specs.KernelRecord.ValidQueues.Place.{Work}
-use Rattle.kernel_calls.specs.CallAnswers.Made.{Made, minus_one}
+use Rattle.kernel_calls.specs.CallAnswers.CallChange.{CallChange, minus_one}
 use Rattle.kernel_calls.specs.PacketCalls.PacketMoves.{packet_at, with_arrived}
 
 -- the packet's sender is there, its words are data of one used block, nobody owns them, and who returns it may send to its sender
@@ -27,7 +27,7 @@ abbrev pub returned : List ℕ → ℕ → ℕ → ℕ → ℕ → QueuedPacket
 returned s p from res1 res2 = record (packet_at s p) { sender = from; res1 = res1; last = res2 }
 
 -- The packet at p goes back to the work queue of the task that its word 1 names, with these results.
-abbrev pub reply : List ℕ → Lists → ℕ → ℕ → ℕ → ℕ → Made
+abbrev pub reply : List ℕ → Lists → ℕ → ℕ → ℕ → ℕ → CallChange
 reply s l p from res1 res2 = record {
   answer = Ok minus_one;
   lists = with_arrived (Work (slice_index s (p + 1))) (returned s p from res1 res2) l;

@@ -33,15 +33,15 @@ place_of devices.Clock = Clock
 place_of devices.Keyboard = Keyboard
 place_of devices.Output = Output
 
--- the lists and the events of what a device does; it writes no plain word
-pub record Served : Type 0 where
+-- What a device does: of the parts of a KernelChange the lists and the events, since it writes no plain word.
+pub record DeviceChange : Type 0 where
   -- the lists
   pub lists : Lists
   -- the events, in their order
   pub events : List KernelEvent
 
 -- a device that has nothing to do leaves all as it was
-abbrev pub unserved : Lists → Served
+abbrev pub unserved : Lists → DeviceChange
 unserved l = record { lists = l; events = [] }
 
 -- the packet as its sender gets it: from the device, with this result, and 0 as the second one
@@ -57,14 +57,14 @@ abbrev pub return_events : Device → QueuedPacket → List KernelEvent
 return_events d p = Taken (signed (number_of d)) p.address (signed p.sender) ∷ Accepted (signed p.sender) p.address (signed (number_of d)) ∷ []
 
 -- where these are queued for the device, the first of them is returned with this result
-abbrev pub first_returned : Device → ℕ → List QueuedPacket → Lists → Served
+abbrev pub first_returned : Device → ℕ → List QueuedPacket → Lists → DeviceChange
 first_returned d res1 [] l = unserved l
 first_returned d res1 (p ∷ ps) l =
     record { lists = with_work_for p.sender (returned_by d res1 p) (with_queue (place_of d) ps l); events = return_events d p }
 
 -- The store that was s, which held the lists l, is t: it holds those that the device leaves, and nothing else has changed. The
 -- same words are owned before and after, so no keeper of kinds has to be told.
-pub record IsServed (s t : List ℕ) (l : Lists) (m : Served) : Type 0 where
+pub record IsServed (s t : List ℕ) (l : Lists) (m : DeviceChange) : Type 0 where
   -- the store holds these lists, and no plain word has changed
   pub lists : IsChanged s t m.lists []
   -- the same words are owned

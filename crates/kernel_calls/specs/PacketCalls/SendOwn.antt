@@ -7,7 +7,7 @@ use Rattle.kernel_model.specs.KernelRecord.Lists.{Lists, has_task}
 use Rattle.kernel_model.specs.KernelRecord.Residents.{key_packet, keyboard}
 use Rattle.kernel_model.specs.KernelRecord.ValidBlocks.{AreData}
 use Rattle.kernel_model.specs.KernelRecord.ValidQueues.Place.{Keyboard, Work}
-use Rattle.kernel_calls.specs.CallAnswers.Made.{Made, minus_one}
+use Rattle.kernel_calls.specs.CallAnswers.CallChange.{CallChange, minus_one}
 use Rattle.kernel_model.specs.declared.kernel_record.numbers.TheConstants.{CONSOLE}
 use Rattle.kernel_calls.specs.PacketCalls.PacketMoves.{sent_packet, with_arrived}
 
@@ -45,7 +45,7 @@ with_sent s p from to l =
     else with_arrived (Work to) (sent_packet s l (Work to) p from) l
 
 -- The packet at p is sent by a resident; nothing refuses it.
-abbrev pub send_own : List ℕ → Lists → ℕ → ℕ → ℕ → Made
+abbrev pub send_own : List ℕ → Lists → ℕ → ℕ → ℕ → CallChange
 send_own s l p from to = record {
   answer = Ok minus_one;
   lists = with_sent s p from to l;

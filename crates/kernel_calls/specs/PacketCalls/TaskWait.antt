@@ -9,7 +9,7 @@ use Rattle.kernel_model.specs.KernelRecord.Lists.{Lists}
 use Rattle.kernel_model.specs.KernelRecord.Task.{Task}
 use Rattle.kernel_model.specs.KernelRecord.ValidQueues.Place.{Work}
 use Rattle.kernel_model.specs.KernelRecord.ValidTasks.{waits}
-use Rattle.kernel_calls.specs.CallAnswers.Made.{Made}
+use Rattle.kernel_calls.specs.CallAnswers.CallChange.{CallChange}
 
 -- a task that waits for a packet
 abbrev pub waiting : Task → Task
@@ -26,7 +26,7 @@ answer_of_wait None = Ok 0
 answer_of_wait (Some p) = Ok p
 
 -- Where its queue is this: it takes the first packet, which is then on no queue, or it waits.
-abbrev pub waited : List QueuedPacket → Lists → Made
+abbrev pub waited : List QueuedPacket → Lists → CallChange
 waited [] l = record { answer = Ok 0; lists = with_task l.running waiting l; plain = []; events = [] }
 waited (p ∷ ps) l = record {
   answer = Ok p.address;
@@ -36,5 +36,5 @@ waited (p ∷ ps) l = record {
 }
 
 -- The running task takes its first packet, or waits for one.
-abbrev pub taskwait : Lists → Made
+abbrev pub taskwait : Lists → CallChange
 taskwait l = waited (queue_of (Work l.running) l) l

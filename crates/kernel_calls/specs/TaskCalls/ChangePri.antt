@@ -6,7 +6,7 @@ use Rattle.kernel_model.specs.KernelRecord.Lists.{Lists}
 use Rattle.kernel_model.specs.KernelRecord.MovedTask.{with_moved_task}
 use Rattle.kernel_model.specs.KernelRecord.Task.{Task}
 use Rattle.kernel_calls.specs.CallAnswers.Guests.{guest_tests}
-use Rattle.kernel_calls.specs.CallAnswers.Made.{Made, done, unless_refused}
+use Rattle.kernel_calls.specs.CallAnswers.CallChange.{CallChange, done, unless_refused}
 
 -- a priority that a guest may have: from 1 to 10,000
 abbrev pub is_priority : ℕ → Bool
@@ -30,5 +30,5 @@ abbrev pub with_new_priority : ℕ → ℕ → Lists → Lists
 with_new_priority id pri l = moved pri (find (λ t. t.id == id) l.tasks) (without_first (λ t. t.id == id) l.tasks) l
 
 -- The guest with the number gets another priority, unless it is refused; the answer is -1.
-abbrev pub change_pri : Lists → ℕ → ℕ → Made
+abbrev pub change_pri : Lists → ℕ → ℕ → CallChange
 change_pri l id pri = unless_refused (guest_tests l id ++ priority_tests l id pri) l (done (with_new_priority id pri l))

@@ -9,7 +9,7 @@ use Rattle.kernel_model.specs.KernelRecord.Lists.{Lists, has_task}
 use Rattle.kernel_model.specs.KernelRecord.Task.{Task}
 use Rattle.kernel_model.specs.KernelRecord.ValidTasks.{dead, no_regs}
 use Rattle.kernel_model.specs.KernelRecord.Versions.{head_words_of, highest_id_of, most_modules_of}
-use Rattle.kernel_calls.specs.CallAnswers.Made.{Made, unless_refused}
+use Rattle.kernel_calls.specs.CallAnswers.CallChange.{CallChange, unless_refused}
 use Rattle.kernel_calls.specs.CallAnswers.Tasks.{no_coroutines}
 use Rattle.kernel_calls.specs.CallAnswers.Modules.{has_module}
 use Rattle.kernel_calls.specs.TaskCalls.ChangePri.{priority_tests}
@@ -77,7 +77,7 @@ new_task l number modules u pri maker =
     }
 
 -- a task is created: it is in the chain, in a block that was taken, of which the words after its task block are plain
-abbrev pub with_created : List ℕ → Lists → Task → Made
+abbrev pub with_created : List ℕ → Lists → Task → CallChange
 with_created s l t =
     record {
       answer = Ok t.id;
@@ -88,7 +88,7 @@ with_created s l t =
 
 -- A new guest with these modules, a stack with the indices 0 to u, a priority and a maker. Its number is `id`, or the lowest that
 -- is free where that is 0; it is the answer, unless the call is refused.
-abbrev pub create_task : List ℕ → Lists → ℕ → List ℕ → ℕ → ℕ → ℕ → Made
+abbrev pub create_task : List ℕ → Lists → ℕ → List ℕ → ℕ → ℕ → ℕ → CallChange
 create_task s l id modules u pri maker =
     unless_refused (creation_tests s l id modules u pri) l
     (with_created s l (new_task l (unwrap_or (number_of l id) 0) modules u pri maker))

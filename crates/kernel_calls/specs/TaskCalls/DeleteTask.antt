@@ -10,7 +10,7 @@ use Rattle.kernel_model.specs.KernelRecord.Lists.{Lists, address_of_task}
 use Rattle.kernel_model.specs.KernelRecord.Running.{RunsAlive}
 use Rattle.kernel_model.specs.KernelRecord.Task.{Task, is_guest_id}
 use Rattle.kernel_calls.specs.CallAnswers.Guests.{GuestAt, guest_tests}
-use Rattle.kernel_calls.specs.CallAnswers.Made.{Made, done, unless_refused}
+use Rattle.kernel_calls.specs.CallAnswers.CallChange.{CallChange, done, unless_refused}
 use Rattle.kernel_calls.specs.CallAnswers.Refusals.{first_refusal}
 use Rattle.kernel_calls.specs.CallAnswers.Tasks.{is_dead}
 use Rattle.kernel_calls.specs.BlockCalls.Freevec.{has_packet_in}
@@ -48,7 +48,7 @@ abbrev pub without_task : Lists → ℕ → Lists
 without_task l id = with_blocks (given (address_of_task l id) l.blocks) (with_tasks (without_first (λ t. t.id == id) l.tasks) l)
 
 -- The guest with the number goes, and its block is given back, unless it is refused; the answer is -1.
-abbrev pub delete_task : Lists → ℕ → Made
+abbrev pub delete_task : Lists → ℕ → CallChange
 delete_task l id = unless_refused (guest_tests l id ++ deletion_tests l id) l (done (without_task l id))
 
 -- the guest at the address has ended, and nothing of its own is left but its block

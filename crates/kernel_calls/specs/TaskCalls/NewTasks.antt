@@ -11,7 +11,7 @@ use Rattle.kernel_model.specs.KernelRecord.Lists.{Lists, has_task}
 use Rattle.kernel_model.specs.KernelRecord.Task.{Task, filled}
 use Rattle.kernel_model.specs.KernelRecord.ValidTasks.{dead}
 use Rattle.kernel_model.specs.KernelRecord.Versions.{highest_id_of, most_modules_of}
-use Rattle.kernel_calls.specs.CallAnswers.Made.{Made, unless_refused}
+use Rattle.kernel_calls.specs.CallAnswers.CallChange.{CallChange, unless_refused}
 use Rattle.kernel_calls.specs.CallAnswers.Modules.{has_module}
 use Rattle.kernel_calls.specs.BlockCalls.FreeStore.{has_room}
 use Rattle.kernel_calls.specs.BlockCalls.Getvec.{getvec_tests}
@@ -70,5 +70,5 @@ pub record MayPlace (l : Lists) (number : ℕ) (modules : List ℕ) (pri maker :
   pub most : length modules ≤ most_modules_of l.version
 
 -- what is made of such a task, where there is room
-abbrev pub place_task : List ℕ → Lists → Task → Made
+abbrev pub place_task : List ℕ → Lists → Task → CallChange
 place_task s l t = unless_refused (getvec_tests l (last_word_of l.version t.highest)) l (with_created s l t)

@@ -2,7 +2,7 @@
 ghost use Rattle.std.specs.Prelude.{◌≡◌};
 ghost use Rattle.kernel_model.specs.KernelRecord.Lists.{Lists};
 ghost use Rattle.kernel_calls.specs.CallAnswers.Callers.{HasCaller};
-ghost use Rattle.kernel_calls.specs.CallAnswers.Made.{IsMade};
+ghost use Rattle.kernel_calls.specs.CallAnswers.CallChange.{IsMade};
 ghost use Rattle.kernel_calls.specs.CoroutineCalls.CreateCo.{createco};
 ghost use Rattle.kernel_model.specs.KernelRecord.ChangedStore.{HasKeeper};
 

@@ -5,7 +5,7 @@ ghost use Rattle.kernel_lists.specs.GetvecChain.Block.{block_end};
 ghost use Rattle.kernel_model.specs.KernelRecord.Changes.{AreUnowned};
 ghost use Rattle.kernel_model.specs.KernelRecord.Lists.{Lists};
 ghost use Rattle.kernel_calls.specs.CallAnswers.Callers.{HasCaller};
-ghost use Rattle.kernel_calls.specs.CallAnswers.Made.{IsMade, plain_answer};
+ghost use Rattle.kernel_calls.specs.CallAnswers.CallChange.{IsMade, plain_answer};
 ghost use Rattle.kernel_calls.specs.CoroutineCalls.DeleteCo.{IsRoomy, deleteco};
 ghost use Rattle.kernel_model.specs.KernelRecord.ChangedStore.{HasKeeper};
 

@@ -6,7 +6,7 @@ ghost use Rattle.kernel_calls.specs.CallAnswers.Callers.{HasCaller};
 ghost use Rattle.kernel_calls.specs.CoroutineCalls.CallCo.{callco};
 ghost use Rattle.kernel_calls.specs.CoroutineCalls.CoWait.{IsWithin, cowait, ended};
 ghost use Rattle.kernel_calls.specs.CoroutineCalls.ResumeCo.{resumeco};
-ghost use Rattle.kernel_calls.specs.CoroutineCalls.Switched.{IsSwitched};
+ghost use Rattle.kernel_calls.specs.CoroutineCalls.SwitchChange.{IsSwitched};
 
 use crate::call_answers::caller;
 use crate::coroutine_calls::refusals::coded;

@@ -7,7 +7,7 @@ ghost use Rattle.kernel_model.specs.KernelRecord.Lists.{Lists};
 ghost use Rattle.kernel_model.specs.KernelRecord.Recovered.{field_in};
 ghost use Rattle.kernel_model.specs.KernelRecord.ValidTasks.{dead};
 ghost use Rattle.kernel_calls.specs.CallAnswers.Guests.{GuestAt};
-ghost use Rattle.kernel_calls.specs.CallAnswers.Made.{IsMade};
+ghost use Rattle.kernel_calls.specs.CallAnswers.CallChange.{IsMade};
 ghost use Rattle.kernel_calls.specs.ModuleCalls.AddModule.{IsCounted, add_module};
 ghost use Rattle.kernel_calls.specs.ModuleCalls.ModuleFields.{further_count};
 ghost use Rattle.kernel_model.specs.KernelRecord.ChangedStore.{HasKeeper};

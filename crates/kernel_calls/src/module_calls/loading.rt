@@ -4,7 +4,7 @@ ghost use Rattle.module_text.specs.ModuleForm.{IsModule};
 ghost use Rattle.module_text.specs.Shapes.{check_of};
 ghost use Rattle.module_text.specs.declared.modules.Module.{Module};
 ghost use Rattle.kernel_model.specs.KernelRecord.Lists.{Lists};
-ghost use Rattle.kernel_calls.specs.CallAnswers.Made.{IsMade, refused};
+ghost use Rattle.kernel_calls.specs.CallAnswers.CallChange.{IsMade, refused};
 ghost use Rattle.kernel_calls.specs.ModuleCalls.LoadModule.{load_module};
 ghost use Rattle.kernel_model.specs.KernelRecord.ChangedStore.{HasKeeper};
 

@@ -2,7 +2,7 @@
 ghost use Rattle.std.specs.Prelude.{◌≡◌};
 ghost use Rattle.kernel_model.specs.KernelRecord.HoldsLists.{HoldsLists};
 ghost use Rattle.kernel_model.specs.KernelRecord.Lists.{Lists};
-ghost use Rattle.kernel_calls.specs.CallAnswers.Made.{IsMade, plain_answer};
+ghost use Rattle.kernel_calls.specs.CallAnswers.CallChange.{IsMade, plain_answer};
 ghost use Rattle.kernel_calls.specs.CallAnswers.Refusals.{answer_of, first_refusal};
 ghost use Rattle.kernel_calls.specs.ModuleCalls.UnloadModule.{unload_module, use_tests};
 ghost use Rattle.kernel_model.specs.KernelRecord.ChangedStore.{HasKeeper};

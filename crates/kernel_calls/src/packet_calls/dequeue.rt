@@ -4,7 +4,7 @@ ghost use Rattle.std.specs.Option.{option_map};
 ghost use Rattle.kernel_model.specs.KernelRecord.HoldsLists.{HoldsLists};
 ghost use Rattle.kernel_model.specs.KernelRecord.Lists.{Lists};
 ghost use Rattle.kernel_calls.specs.CallAnswers.Callers.{HasCaller};
-ghost use Rattle.kernel_calls.specs.CallAnswers.Made.{IsMade};
+ghost use Rattle.kernel_calls.specs.CallAnswers.CallChange.{IsMade};
 ghost use Rattle.kernel_calls.specs.PacketCalls.Destinations.{is_destination, place_of, queue_for};
 ghost use Rattle.kernel_calls.specs.PacketCalls.Dqpkt.{dqpkt, found_in, found_in_own, is_residents_packet, located};
 ghost use Rattle.kernel_model.specs.KernelRecord.LoggedEvents.{LogsAll};

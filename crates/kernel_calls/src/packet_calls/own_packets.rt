@@ -2,7 +2,7 @@
 ghost use Rattle.std.specs.Prelude.{◌≡◌, Ok};
 ghost use Rattle.word_store.specs.Arithmetic.{word_of};
 ghost use Rattle.kernel_model.specs.KernelRecord.Lists.{Lists};
-ghost use Rattle.kernel_calls.specs.CallAnswers.Made.{IsMade, minus_one};
+ghost use Rattle.kernel_calls.specs.CallAnswers.CallChange.{IsMade, minus_one};
 ghost use Rattle.kernel_calls.specs.PacketCalls.SendOwn.{CanSendOwn, send_own};
 ghost use Rattle.kernel_model.specs.KernelRecord.LoggedEvents.{LogsAll};
 ghost use Rattle.kernel_model.specs.KernelRecord.ChangedStore.{HasKeeper};

@@ -3,7 +3,7 @@ ghost use Rattle.std.specs.Prelude.{◌≡◌, Ok};
 ghost use Rattle.word_store.specs.Arithmetic.{word_of};
 ghost use Rattle.kernel_model.specs.KernelRecord.HoldsLists.{HoldsLists};
 ghost use Rattle.kernel_model.specs.KernelRecord.Lists.{Lists};
-ghost use Rattle.kernel_calls.specs.CallAnswers.Made.{Leaves, minus_one};
+ghost use Rattle.kernel_calls.specs.CallAnswers.CallChange.{Leaves, minus_one};
 ghost use Rattle.kernel_calls.specs.PacketCalls.Reply.{CanReply, reply};
 ghost use Rattle.kernel_model.specs.KernelRecord.LoggedEvents.{LogsAll};
 

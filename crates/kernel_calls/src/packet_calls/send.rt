@@ -4,7 +4,7 @@ ghost use Rattle.kernel_lists.specs.GetvecChain.Block.{has_data};
 ghost use Rattle.kernel_model.specs.KernelRecord.HoldsLists.{HoldsLists};
 ghost use Rattle.kernel_model.specs.KernelRecord.Lists.{Lists};
 ghost use Rattle.kernel_calls.specs.CallAnswers.Callers.{HasCaller};
-ghost use Rattle.kernel_calls.specs.CallAnswers.Made.{IsMade, plain_answer};
+ghost use Rattle.kernel_calls.specs.CallAnswers.CallChange.{IsMade, plain_answer};
 ghost use Rattle.kernel_calls.specs.CallAnswers.Refusals.{answer_of, first_refusal};
 ghost use Rattle.kernel_calls.specs.PacketCalls.Qpkt.{is_lodged, packet_tests, qpkt};
 ghost use Rattle.kernel_model.specs.KernelRecord.LoggedEvents.{LogsAll};

@@ -4,7 +4,7 @@ ghost use Rattle.kernel_model.specs.KernelRecord.Lists.{Lists};
 ghost use Rattle.kernel_model.specs.KernelRecord.Changes.{queue_of};
 ghost use Rattle.kernel_model.specs.KernelRecord.ValidQueues.Place.{Work};
 ghost use Rattle.kernel_calls.specs.CallAnswers.Callers.{HasCaller};
-ghost use Rattle.kernel_calls.specs.CallAnswers.Made.{IsMade};
+ghost use Rattle.kernel_calls.specs.CallAnswers.CallChange.{IsMade};
 ghost use Rattle.kernel_calls.specs.PacketCalls.TaskWait.{answer_of_wait, first_of_queue, taskwait};
 ghost use Rattle.kernel_model.specs.KernelRecord.LoggedEvents.{LogsAll};
 ghost use Rattle.kernel_model.specs.KernelRecord.ChangedStore.{HasKeeper};

@@ -2,7 +2,7 @@
 ghost use Rattle.std.specs.Prelude.{◌≡◌, ℕ, Ok, false};
 ghost use Rattle.kernel_model.specs.KernelRecord.Lists.{Lists};
 ghost use Rattle.kernel_calls.specs.CallAnswers.Guests.{GuestAt};
-ghost use Rattle.kernel_calls.specs.CallAnswers.Made.{IsMade, done, minus_one, plain_answer};
+ghost use Rattle.kernel_calls.specs.CallAnswers.CallChange.{IsMade, done, minus_one, plain_answer};
 ghost use Rattle.kernel_calls.specs.CallAnswers.Refusals.{answer_of, first_refusal};
 ghost use Rattle.kernel_calls.specs.TaskCalls.DeleteTask.{HasEnded, delete_task, deletion_tests, without_task};
 ghost use Rattle.kernel_model.specs.KernelRecord.Running.{RunsAlive};

@@ -3,7 +3,7 @@ ghost use Rattle.std.specs.Prelude.{Ok};
 ghost use Rattle.kernel_model.specs.KernelRecord.HoldsLists.{HoldsLists};
 ghost use Rattle.kernel_model.specs.KernelRecord.Lists.{Lists};
 ghost use Rattle.kernel_calls.specs.CallAnswers.Callers.{HasCaller};
-ghost use Rattle.kernel_calls.specs.CallAnswers.Made.{Leaves, plain_answer};
+ghost use Rattle.kernel_calls.specs.CallAnswers.CallChange.{Leaves, plain_answer};
 ghost use Rattle.kernel_calls.specs.TaskCalls.SetFlags.{set_flags};
 ghost use Rattle.kernel_calls.specs.TaskCalls.TestFlags.{test_flags};
 

@@ -1,7 +1,7 @@
 // A task is held.
 ghost use Rattle.kernel_model.specs.KernelRecord.HoldsLists.{HoldsLists};
 ghost use Rattle.kernel_model.specs.KernelRecord.Lists.{Lists};
-ghost use Rattle.kernel_calls.specs.CallAnswers.Made.{Leaves, plain_answer};
+ghost use Rattle.kernel_calls.specs.CallAnswers.CallChange.{Leaves, plain_answer};
 ghost use Rattle.kernel_calls.specs.TaskCalls.HoldTask.{hold};
 
 use crate::call_answers::codes::HELD_ALREADY;

@@ -5,7 +5,7 @@ ghost use Rattle.kernel_lists.specs.TaskBlock.Moves as moves;
 ghost use Rattle.kernel_lists.specs.TaskBlock.TaskChain.{HasTasks, tasks_in};
 ghost use Rattle.kernel_model.specs.KernelRecord.HoldsLists.{HoldsLists};
 ghost use Rattle.kernel_model.specs.KernelRecord.Lists.{Lists};
-ghost use Rattle.kernel_calls.specs.CallAnswers.Made.{Leaves, plain_answer};
+ghost use Rattle.kernel_calls.specs.CallAnswers.CallChange.{Leaves, plain_answer};
 ghost use Rattle.kernel_calls.specs.CallAnswers.Refusals.{answer_of, first_refusal};
 ghost use Rattle.kernel_calls.specs.TaskCalls.ChangePri.{change_pri, is_priority, priority_tests};
 

@@ -1,7 +1,7 @@
 // A task is released.
 ghost use Rattle.kernel_model.specs.KernelRecord.HoldsLists.{HoldsLists};
 ghost use Rattle.kernel_model.specs.KernelRecord.Lists.{Lists};
-ghost use Rattle.kernel_calls.specs.CallAnswers.Made.{Leaves, plain_answer};
+ghost use Rattle.kernel_calls.specs.CallAnswers.CallChange.{Leaves, plain_answer};
 ghost use Rattle.kernel_calls.specs.TaskCalls.ReleaseTask.{release};
 
 use crate::call_answers::codes::NOT_HELD;

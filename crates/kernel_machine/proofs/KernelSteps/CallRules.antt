@@ -22,7 +22,7 @@ use Rattle.kernel_model.specs.KernelRecord.ValidQueues.Place.{Clock, Keyboard, O
 use Rattle.kernel_model.specs.KernelRecord.Versions.{highest_id_of}
 use Rattle.kernel_model.proofs.KernelRecord.OwnedPackets.{unowned-no_fault}
 use Rattle.kernel_calls.specs.CallAnswers.Guests.{guest_tests}
-use Rattle.kernel_calls.specs.CallAnswers.Made.{Made, by_refusal, done, unless_refused}
+use Rattle.kernel_calls.specs.CallAnswers.CallChange.{CallChange, by_refusal, done, unless_refused}
 use Rattle.kernel_calls.specs.CallAnswers.Refusals.{first_refusal}
 use Rattle.kernel_calls.specs.BlockCalls.FreeStore.{data_taken, with_taken}
 use Rattle.kernel_calls.specs.BlockCalls.Freevec.{freevec, freevec_tests, with_given}
@@ -47,8 +47,8 @@ use Rattle.kernel_calls.specs.CoroutineCalls.CoWait.{ended, wait_tests, with_end
 use Rattle.kernel_calls.specs.CoroutineCalls.CreateCo.{create_tests, created, createco, with_created as with_new_coroutine}
 use Rattle.kernel_calls.specs.CoroutineCalls.DeleteCo.{delete_tests, deleteco, with_deleted, with_deleted_at}
 use Rattle.kernel_calls.specs.CoroutineCalls.ResumeCo.{resume_tests, resumed_itself}
-use Rattle.kernel_calls.specs.CoroutineCalls.Switched as switches
-use Rattle.kernel_calls.specs.CoroutineCalls.Switched.{Switched, switched}
+use Rattle.kernel_calls.specs.CoroutineCalls.SwitchChange as switches
+use Rattle.kernel_calls.specs.CoroutineCalls.SwitchChange.{SwitchChange, switched}
 use Rattle.instruction_set.specs.Instruction.{After, instruction}
 use Rattle.instruction_set.specs.declared.Outcome.{Outcome}
 use Rattle.instruction_set.specs.declared.Outcome.TheVariants.{Next, Sys, Returned, Fault as Faulted}
@@ -107,7 +107,7 @@ tests-passed (test ∷ tests) e = on test.0 refl e (tests-passed tests)
     on false is e more = cc
 
 -- refused or not
-pub refused-keeps : (l : Lists) (tests : List (Bool × ℕ)) (m : Made) → (AllByRecursion (λ test. test.0 ≡ true) tests → KeepsRules l m.lists) → KeepsRules l (unless_refused tests l m).lists
+pub refused-keeps : (l : Lists) (tests : List (Bool × ℕ)) (m : CallChange) → (AllByRecursion (λ test. test.0 ≡ true) tests → KeepsRules l m.lists) → KeepsRules l (unless_refused tests l m).lists
 refused-keeps l tests m kept = on (first_refusal tests) refl
   where
     on : (o : Option ℕ) → first_refusal tests ≡ o → KeepsRules l (by_refusal o l m).lists
@@ -245,7 +245,7 @@ module _ (l : Lists) where
       refused-keeps l (delete_tests l c) (done (with_deleted_at c l))
       (λ p. record { faults = λ h there. (let x = changed.faults h there in record { waits = x.waits; sender = x.sender }); key = refl; pending = λ e. e })
 
-  refused-switch : (o : Option ℕ) (r : Regs) (m : Switched) → KeepsRules l m.lists → KeepsRules l (switches.by_refusal o l r m).lists
+  refused-switch : (o : Option ℕ) (r : Regs) (m : SwitchChange) → KeepsRules l m.lists → KeepsRules l (switches.by_refusal o l r m).lists
   refused-switch None r m is = is
   refused-switch (Some code) r m is = keeps-none l
 
@@ -256,10 +256,10 @@ module _ (l : Lists) where
   resume-keeps r c v true = keeps-none l
   resume-keeps r c v false = switched-keeps (with_resumed c r.p r.pc) v r
 
-  go_on-keeps : (m : Switched) → KeepsRules l m.lists → KeepsRules l (of_switched m).lists
+  go_on-keeps : (m : SwitchChange) → KeepsRules l m.lists → KeepsRules l (of_switched m).lists
   go_on-keeps m is = is
 
-  wait-keeps : (r : Regs) (ps : List QueuedPacket) (m : Made) → KeepsRules l m.lists → KeepsRules l (of_wait r ps m).lists
+  wait-keeps : (r : Regs) (ps : List QueuedPacket) (m : CallChange) → KeepsRules l m.lists → KeepsRules l (of_wait r ps m).lists
   wait-keeps r [] m is = is
   wait-keeps r (p ∷ ps) m is = is
 

@@ -18,7 +18,7 @@ use Rattle.kernel_model.specs.KernelRecord.ValidTasks.{runs}
 use Rattle.kernel_model.proofs.KernelRecord.EachMember.{all-each}
 use Rattle.kernel_model.proofs.KernelRecord.QueuePlaces.{valid-at-place}
 use Rattle.kernel_calls.specs.CallAnswers.Guests.{guest_tests}
-use Rattle.kernel_calls.specs.CallAnswers.Made.{by_refusal, done}
+use Rattle.kernel_calls.specs.CallAnswers.CallChange.{by_refusal, done}
 use Rattle.kernel_calls.specs.CallAnswers.Refusals.{first_refusal}
 use Rattle.kernel_calls.specs.PacketCalls.PacketMoves.{arrived, sent_packet, with_arrived}
 use Rattle.kernel_calls.specs.TaskCalls.SetFlags.{flagged, set_flags}
@@ -30,7 +30,7 @@ use Rattle.resident_tasks.specs.ConsoleHandler.ConsoleTurn.{all_parts, answer_of
 use Rattle.resident_tasks.specs.ConsoleHandler.Deliveries.{command_after, delivered, delivery, handed, line_after, line_service, with_read}
 use Rattle.resident_tasks.specs.ConsoleHandler.KeyPacket.{keys_taken, keys_taken_from}
 use Rattle.resident_tasks.specs.ConsoleHandler.Line.{Keyed, flags_of, is_printed, key, keyed, with_end, with_finish, without_end}
-use Rattle.resident_tasks.specs.ConsoleHandler.Progress.{Progress, and_then, begun}
+use Rattle.resident_tasks.specs.ConsoleHandler.TurnParts.{ConsoleTurn, and_then, begun}
 use Rattle.resident_tasks.specs.ConsoleHandler.Reads.{put_off, read_taken_from, words_read_from}
 use Rattle.guest_turns.specs.GuestTurn.{Numbers, numbers_of}
 use Rattle.guest_turns.proofs.RunningField.{RunsIn, one-runs, queue-runs}
@@ -45,7 +45,7 @@ abbrev pub NoneIsFault : Lists → List QueuedPacket → Type 0
 NoneIsFault l ps = has_task 2 l.tasks ≡ true → AllByRecursion (λ p. eqb p.address fault_packet ≡ false) ps
 
 -- what holds of a turn of which some parts are done
-pub record IsKept (nums : Numbers) (g : Progress) : Type 0 where
+pub record IsKept (nums : Numbers) (g : ConsoleTurn) : Type 0 where
   pub runs : RunsIn nums g.lists
   pub rule : HasRule g.lists
   pub reads : NoneIsFault g.lists g.lists.pending
@@ -102,7 +102,7 @@ work-stays : (l : Lists) (i : ℕ) (ps : List QueuedPacket) → has_task 2 (with
 work-stays l i ps = there-same (with_work i ps) (work-keeps i ps) 2 l.tasks
 
 module _ (nums : Numbers) where
-  keys_taken-kept : (g : Progress) → IsKept nums g → IsKept nums (with_keys_taken g)
+  keys_taken-kept : (g : ConsoleTurn) → IsKept nums g → IsKept nums (with_keys_taken g)
   keys_taken-kept g k = on (work g.lists) refl
     where
       on : (ps : List QueuedPacket) → work g.lists ≡ ps → IsKept nums (and_then g (keys_taken_from ps g.lists).lists [] (keys_taken_from ps g.lists).events)
@@ -119,7 +119,7 @@ module _ (nums : Numbers) where
             command = k.command;
           }
 
-  keyed-kept : (id : ℕ) (x : Keyed) (g : Progress) → length x.console.line ≤ 120 → IsKept nums g → IsKept nums (with_keyed id x g)
+  keyed-kept : (id : ℕ) (x : Keyed) (g : ConsoleTurn) → length x.console.line ≤ 120 → IsKept nums g → IsKept nums (with_keyed id x g)
   keyed-kept id x g most k = record {
     runs = flags-runs nums g.lists id x.flags k.runs;
     rule = (set_flags-keeps g.lists id x.flags).faults k.rule;
@@ -128,13 +128,13 @@ module _ (nums : Numbers) where
     command = k.command;
   }
 
-  key-kept : (id : ℕ) (g : Progress) → IsKept nums g → IsKept nums (with_key id g)
+  key-kept : (id : ℕ) (g : ConsoleTurn) → IsKept nums g → IsKept nums (with_key id g)
   key-kept id g k =
       keyed-kept id (key g.console (key_of (keys_taken g.lists).answer)) (with_keys_taken g) (most-keyed g.console (key_of (keys_taken g.lists).answer) k.line) (keys_taken-kept g k)
 
   -- ---- a request
 
-  request-kept : (s : List ℕ) (l : Lists) (r : Request) (g : Progress) → RunsIn nums l → HasRule l → NoneIsFault l l.pending → (has_task 2 l.tasks ≡ true → eqb r.packet fault_packet ≡ false) → IsKept nums g
+  request-kept : (s : List ℕ) (l : Lists) (r : Request) (g : ConsoleTurn) → RunsIn nums l → HasRule l → NoneIsFault l l.pending → (has_task 2 l.tasks ≡ true → eqb r.packet fault_packet ≡ false) → IsKept nums g
       → IsKept nums (with_request s l r g)
   request-kept s l r g runs rule reads other k = on (eqb r.kind 1)
     where
@@ -160,7 +160,7 @@ module _ (nums : Numbers) where
             command = k.command;
           }
 
-  first-kept : (g : Progress) → NoneIsFault g.lists (work g.lists) → IsKept nums g → IsKept nums (with_first g)
+  first-kept : (g : ConsoleTurn) → NoneIsFault g.lists (work g.lists) → IsKept nums g → IsKept nums (with_first g)
   first-kept g others k = on (work g.lists) refl
     where
       on : (ps : List QueuedPacket) → work g.lists ≡ ps → IsKept nums (with_taken (first_request (words_taken_from ps g.words g.lists) ps) (words_taken_from ps g.words g.lists) (taken_from ps g.lists).lists g)
@@ -172,7 +172,7 @@ module _ (nums : Numbers) where
           ((rest-keeps g.lists p ps is).faults k.rule) (λ there. k.reads (before there))
           (λ there. (subst (AllByRecursion (λ q. eqb q.address fault_packet ≡ false)) is (others (before there))).0) k
 
-  treated-kept : (id : ℕ) (g : Progress) (ps : List QueuedPacket) → NoneIsFault g.lists (work g.lists) → IsKept nums g → IsKept nums (treated id ps g)
+  treated-kept : (id : ℕ) (g : ConsoleTurn) (ps : List QueuedPacket) → NoneIsFault g.lists (work g.lists) → IsKept nums g → IsKept nums (treated id ps g)
   treated-kept id g [] others k = k
   treated-kept id g (p ∷ ps) others k = on (is_key_packet g.lists p)
     where
@@ -193,7 +193,7 @@ module _ (nums : Numbers) where
       on true = one
       on false = two
 
-  handed-kept : (g : Progress) → IsKept nums g → IsKept nums (handed g)
+  handed-kept : (g : ConsoleTurn) → IsKept nums g → IsKept nums (handed g)
   handed-kept g k = on g.lists.pending refl
     where
       on : (ps : List QueuedPacket) → g.lists.pending ≡ ps → IsKept nums (with_read (first_request (words_read_from ps g.words) ps) (words_read_from ps g.words) (read_taken_from ps g.lists).lists g)
@@ -213,7 +213,7 @@ module _ (nums : Numbers) where
             command = most-command r g.console.line g.command k.line k.command;
           }
 
-  delivered-kept : (ps : List QueuedPacket) (g : Progress) → IsKept nums g → IsKept nums (delivered ps g)
+  delivered-kept : (ps : List QueuedPacket) (g : ConsoleTurn) → IsKept nums g → IsKept nums (delivered ps g)
   delivered-kept [] g k = k
   delivered-kept (p ∷ ps) g k = on g.console.finished (delivered-kept ps (handed g) (handed-kept g k))
     where
@@ -223,7 +223,7 @@ module _ (nums : Numbers) where
 
   -- ---- the key packet
 
-  sent-kept : (g : Progress) → IsKept nums g → IsKept nums (with_keys_sent g)
+  sent-kept : (g : ConsoleTurn) → IsKept nums g → IsKept nums (with_keys_sent g)
   sent-kept g k = on (is_some g.lists.key && not g.console.finished)
     where
       on : (b : Bool) → IsKept nums (cond b (keys_sent g) g)
@@ -239,7 +239,7 @@ module _ (nums : Numbers) where
           }
       on false = k
 
-  ended-kept : (g : Progress) → IsKept nums g → IsKept nums (ended g)
+  ended-kept : (g : ConsoleTurn) → IsKept nums g → IsKept nums (ended g)
   ended-kept g k = record {
     runs = finished-runs nums g.lists k.runs;
     rule = (finished-keeps g.lists).faults k.rule;
@@ -257,9 +257,9 @@ module _ (nums : Numbers) where
 
   -- ---- the turn
 
-  parts-kept : (id : ℕ) (g : Progress) → NoneIsFault g.lists (work g.lists) → IsKept nums g → IsKept nums (all_parts id g)
+  parts-kept : (id : ℕ) (g : ConsoleTurn) → NoneIsFault g.lists (work g.lists) → IsKept nums g → IsKept nums (all_parts id g)
   parts-kept id g others k =
-      let t : Progress = treated id (work g.lists) g in
+      let t : ConsoleTurn = treated id (work g.lists) g in
       ended-kept (with_keys_sent (delivery t)) (sent-kept (delivery t) (delivered-kept t.lists.pending t (treated-kept id g (work g.lists) others k)))
 
 -- in valid lists the fault packet is on the queue of the reporter of faults alone

@@ -11,7 +11,7 @@ use Rattle.kernel_model.specs.KernelRecord.Kernel.{Kernel}
 use Rattle.kernel_model.specs.KernelRecord.Lists.{Lists}
 use Rattle.kernel_model.specs.KernelRecord.ValidQueues.Place.{Clock, Work}
 use Rattle.kernel_model.specs.KernelDispatch.Dispatch.{CanDispatch}
-use Rattle.kernel_calls.specs.PacketCalls.Returned.{Served, first_returned, place_of, returned_by, with_work_for}
+use Rattle.kernel_calls.specs.PacketCalls.Returned.{DeviceChange, first_returned, place_of, returned_by, with_work_for}
 use Rattle.kernel_calls.specs.declared.packet_calls.returns.Device.{Device}
 use Rattle.kernel_calls.specs.declared.packet_calls.returns.Device.TheVariants as devices
 use Rattle.kernel_devices.specs.Tick.{due_packets, due_returned, later_packets, ticked, with_returned, with_tick}
@@ -63,7 +63,7 @@ runs-ticked l r can = record { numbers = refl; alone = can.field }
 
 -- ---- what a device leaves
 
-module _ (k : Kernel) (m : Served) where
+module _ (k : Kernel) (m : DeviceChange) where
   served-same : IsSameMachine k (served k m).kernel
   unfolding settled
   served-same = record { steps = refl }
@@ -149,7 +149,7 @@ module _ (k : Kernel) where
   abbrev typed : Kernel
   typed = with_key_typed k
 
-  abbrev met_by : Served
+  abbrev met_by : DeviceChange
   met_by = met typed.type_ahead typed.lists
 
   abbrev left : Kernel

@@ -13,7 +13,7 @@ use Rattle.kernel_model.specs.KernelRecord.ValidLists.{AreValid}
 use Rattle.kernel_model.specs.KernelRecord.ValidTasks.{IsTask, runs}
 use Rattle.kernel_model.proofs.KernelRecord.EachMember.{all-each}
 use Rattle.kernel_model.proofs.KernelRecord.TaskPlaces.{TaskPlace, task-places}
-use Rattle.kernel_model.specs.KernelDispatch.Dispatch.{CanDispatch, Dispatched, dispatched, first_ready_task, goes_on, packets_taken, resumed, unchanged, unlinked_words, with_next, with_nobody, with_resumed, with_suspended}
+use Rattle.kernel_model.specs.KernelDispatch.Dispatch.{CanDispatch, DispatchChange, dispatched, first_ready_task, goes_on, packets_taken, resumed, unchanged, unlinked_words, with_next, with_nobody, with_resumed, with_suspended}
 use Rattle.guest_turns.specs.GuestTurn.{numbers_of}
 use Rattle.kernel_machine.specs.KernelSteps.Parts.{RunsFirst}
 use Rattle.kernel_machine.proofs.KernelSteps.DispatchedTasks.{alive-resumed, alone-resumed, bytes-resumed, first-resumed, ids-changed, none-run, resumed-byte, resumed-idle}
@@ -27,7 +27,7 @@ pub record GoesOn (l : Lists) (t : Task) : Type 0 where
   pub running : t.id ≡ l.running
   pub field : t.field ≡ runs
 
-module _ (words : List ℕ) (l : Lists) (r : Regs) (P : Dispatched → Type 0) where
+module _ (words : List ℕ) (l : Lists) (r : Regs) (P : DispatchChange → Type 0) where
   abbrev m : Lists
   m = with_suspended r l
 
@@ -53,7 +53,7 @@ module _ (words : List ℕ) (l : Lists) (r : Regs) (P : Dispatched → Type 0) w
 -- ---- the first ready task runs
 
 module _ (words : List ℕ) (l : Lists) (r : Regs) (can : CanDispatch l r) where
-  abbrev Runs : Dispatched → Type 0
+  abbrev Runs : DispatchChange → Type 0
   Runs d = AreValid d.lists → RunsFirst d.lists d.regs
 
   goes : (t : Task) → GoesOn l t → Runs (unchanged l r)

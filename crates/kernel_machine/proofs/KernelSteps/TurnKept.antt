@@ -7,7 +7,7 @@ use Rattle.kernel_model.specs.KernelRecord.Lists.{Lists, has_task}
 use Rattle.kernel_model.specs.KernelRecord.Task.{is_guest_id}
 use Rattle.kernel_model.specs.KernelDispatch.Dispatch.{CanDispatch}
 use Rattle.resident_tasks.specs.ResidentRequests.Requests.{RunsResident}
-use Rattle.guest_turns.specs.GuestTurn.{Turned, numbers_of, turn_without_reporter}
+use Rattle.guest_turns.specs.GuestTurn.{GuestTurn, numbers_of, turn_without_reporter}
 use Rattle.guest_turns.proofs.RunningField.{RunsIn}
 use Rattle.guest_turns.proofs.TurnFields.{turn-dispatches, turn-numbers}
 use Rattle.resident_tasks.specs.FaultReporter.Recorded.{held_with, recorded, sent_where}
@@ -74,7 +74,7 @@ module _ (k : Kernel) (can : CanTurn k) where
   guest-kept guest =
       let s : List ℕ = image k in
       let alone = runs-alone k.lists k.regs can.first in
-      let m : Turned = turn_without_reporter s k.lists k.regs in
+      let m : GuestTurn = turn_without_reporter s k.lists k.regs in
       let dispatch : CanDispatch m.lists m.regs = turn-dispatches s k.lists k.regs alone (runs-calls k.lists k.regs can.first can.lists guest) can.first.registers.byte in
       let numbers : numbers_of m.lists ≡ numbers_of k.lists = turn-numbers s k.lists k.regs alone in
       guest-ways (λ x. Goes k (after_turn k x).kernel) s k.lists k.regs (record { dispatch = dispatch; numbers = numbers })

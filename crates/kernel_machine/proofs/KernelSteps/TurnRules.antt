@@ -23,7 +23,7 @@ use Rattle.resident_tasks.specs.FileHandler.FileTurn.{file_service}
 use Rattle.resident_tasks.proofs.FileHandler.EndedRequests.{turn-keeps as stream-stays}
 use Rattle.resident_tasks.specs.PipeHandler.PipeTurns.{pipe_service}
 use Rattle.resident_tasks.proofs.PipeHandler.KeptTurns.{turn-kept}
-use Rattle.guest_turns.specs.GuestTurn.{Turned, numbers_of, turn_without_reporter}
+use Rattle.guest_turns.specs.GuestTurn.{GuestTurn, numbers_of, turn_without_reporter}
 use Rattle.guest_turns.proofs.FaultedTurn.{fault-untouched}
 use Rattle.shell.specs.Modes.{awaited}
 use Rattle.shell.specs.ShellTurn.{RunsShell, shell_turn}
@@ -89,7 +89,7 @@ guest-keeps : (s : List ℕ) (k : Kernel) → AreValid k.lists → HasCaller k.l
 guest-keeps s k v caller =
     guest-ways (λ x. KeepsRules k.lists x.lists) s k.lists k.regs (turn-keeps k.lists v s k.regs)
     (λ f is.
-    let m : Turned = turn_without_reporter s k.lists k.regs in
+    let m : GuestTurn = turn_without_reporter s k.lists k.regs in
     keeps-then k.lists m.lists (recorded f m.lists) (turn-keeps k.lists v s k.regs) (recorded-keeps m.lists f (recordable s k.lists k.regs f caller is)))
 
 -- ---- the turns of residents

@@ -6,7 +6,7 @@ use Rattle.instruction_set.specs.declared.Fault.{Fault}
 use Rattle.kernel_model.specs.KernelRecord.Kernel.{Kernel}
 use Rattle.kernel_model.specs.KernelRecord.Lists.{Lists, has_task}
 use Rattle.kernel_model.specs.KernelRecord.Task.{is_guest_id}
-use Rattle.guest_turns.specs.GuestTurn.{Turned, turn_without_reporter}
+use Rattle.guest_turns.specs.GuestTurn.{GuestTurn, turn_without_reporter}
 use Rattle.guest_turns.specs.declared.turns.TurnEnd.{TurnEnd}
 use Rattle.guest_turns.specs.declared.turns.TurnEnd.TheVariants.{Faults, Goes, Quits}
 use Rattle.kernel_machine.specs.KernelSteps.GuestSteps.{guest_step, is_recorded, reported_by, turn_of_guest, with_recorded}
@@ -71,10 +71,10 @@ pub record IsRecorded (s : List ℕ) (l : Lists) (r : Regs) (f : Fault) : Type 0
   pub reporter : has_task 2 (turn_without_reporter s l r).lists.tasks ≡ true
   pub other : eqb f.code 6 ≡ false
 
-pub guest-ways : (P : Turned → Type 0) (s : List ℕ) (l : Lists) (r : Regs) → P (turn_without_reporter s l r) → ((f : Fault) → IsRecorded s l r f → P (with_recorded f (turn_without_reporter s l r))) → P (turn_of_guest s l r)
+pub guest-ways : (P : GuestTurn → Type 0) (s : List ℕ) (l : Lists) (r : Regs) → P (turn_without_reporter s l r) → ((f : Fault) → IsRecorded s l r f → P (with_recorded f (turn_without_reporter s l r))) → P (turn_of_guest s l r)
 guest-ways P s l r goes recorded = on (turn_without_reporter s l r).ends refl
   where
-    m : Turned
+    m : GuestTurn
     m = turn_without_reporter s l r
 
     not-six : (b : Bool) → not b ≡ true → b ≡ false

@@ -21,7 +21,7 @@ use Rattle.kernel_model.specs.KernelRecord.ValidLists.{AreValid}
 use Rattle.kernel_model.specs.KernelRecord.ValidTasks.{dead, runs, waits}
 use Rattle.kernel_model.specs.KernelRecord.Versions.{highest_id_of}
 use Rattle.kernel_model.proofs.KernelRecord.EachMember.{all-each}
-use Rattle.kernel_model.specs.KernelDispatch.Dispatch.{Dispatched, dispatched, first_ready_task, packets_taken, suspended, taken_event, takes_packet, unchanged, with_nobody, with_resumed, with_suspended}
+use Rattle.kernel_model.specs.KernelDispatch.Dispatch.{DispatchChange, dispatched, first_ready_task, packets_taken, suspended, taken_event, takes_packet, unchanged, with_nobody, with_resumed, with_suspended}
 use Rattle.guest_turns.specs.GuestTurn.{Numbers, numbers_of}
 use Rattle.kernel_machine.specs.KernelSteps.Parts.{RunsFirst}
 use Rattle.kernel_machine.specs.KernelSteps.Step.{boot_events, dispatch, first_events, run_events}
@@ -170,7 +170,7 @@ module _ (s : Session) (h : HasKernel s) where
           reporter = fresh.reporter;
         }
 
-    abbrev Shows : Dispatched → Type 0
+    abbrev Shows : DispatchChange → Type 0
     Shows d = d.events ≡ cond (eqb d.lists.running 0) [] (Runs d.lists.running ∷ [])
 
     fresh-at : (l : Lists) (t : Task) → FreshTasks k.lists.fault_packet_free l.tasks → first_ready_task l ≡ Some t → IsFresh k.lists.fault_packet_free t

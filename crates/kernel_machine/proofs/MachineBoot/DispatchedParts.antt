@@ -6,7 +6,7 @@ use Rattle.kernel_model.specs.KernelRecord.Image.{HasPlainWords, IsImage, image,
 use Rattle.kernel_model.specs.KernelRecord.Kernel.{Kernel}
 use Rattle.kernel_model.proofs.KernelRecord.ImageWords.{image-list}
 use Rattle.kernel_model.proofs.KernelRecord.SettledWords.{settled-image, settled-plain}
-use Rattle.kernel_model.specs.KernelDispatch.Dispatch.{Dispatched, dispatched}
+use Rattle.kernel_model.specs.KernelDispatch.Dispatch.{DispatchChange, dispatched}
 use Rattle.kernel_model.specs.KernelDispatch.Turn.{IsDispatched}
 use Rattle.kernel_model.specs.WordKinds.ByteMap.{MarksAll}
 use Rattle.kernel_machine.specs.KernelSteps.Step.{dispatch}
@@ -16,7 +16,7 @@ use Rattle.kernel_machine.specs.RunningMachine.RepresentedKernels.{RepresentsKer
 
 module _ (p : Parts) (k : Kernel) (h : RepresentsKernel p k) (t : List ℕ) (regs : Regs) (kinds : List Bool) (before now : Option (List KernelEvent)) (f g : Bool)
     (room : length kinds ≡ length p.kinds) (left : IsDispatched p.store t k.lists p.regs regs (MarksAll kinds) before now f g) where
-  abbrev m : Dispatched
+  abbrev m : DispatchChange
   m = dispatched (image k) k.lists k.regs
 
   is : IsDispatched (image k) t k.lists k.regs regs (MarksAll kinds) before now f g

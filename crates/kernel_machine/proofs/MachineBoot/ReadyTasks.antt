@@ -16,7 +16,7 @@ use Rattle.kernel_model.specs.KernelRecord.Changes.{change_of, work_of}
 use Rattle.kernel_model.specs.KernelRecord.Lists.{Lists, has_task}
 use Rattle.kernel_model.specs.KernelRecord.Task.{Task as TaskRecord}
 use Rattle.kernel_model.proofs.KernelRecord.AllThings.{all-inserted}
-use Rattle.kernel_calls.specs.CallAnswers.Made.{Made, by_refusal}
+use Rattle.kernel_calls.specs.CallAnswers.CallChange.{CallChange, by_refusal}
 use Rattle.kernel_calls.specs.CallAnswers.Refusals.{first_refusal}
 use Rattle.kernel_calls.specs.ModuleCalls.LoadModule.{load_tests}
 use Rattle.kernel_calls.specs.TaskCalls.CreateTask.{create_task, creation_tests, new_task, number_of, with_created}
@@ -86,7 +86,7 @@ pub record IsReady (nums : Numbers) (words : ℕ) (l : Lists) : Type 0 where
 module _ (nums : Numbers) (size : ℕ) where
   -- ---- modules
 
-  refused-ready : (o : Option ℕ) (l : Lists) (m : Made) → IsReady nums size l → IsReady nums size m.lists → IsReady nums size (by_refusal o l m).lists
+  refused-ready : (o : Option ℕ) (l : Lists) (m : CallChange) → IsReady nums size l → IsReady nums size m.lists → IsReady nums size (by_refusal o l m).lists
   refused-ready None l m before after = after
   refused-ready (Some code) l m before after = before
 
@@ -148,7 +148,7 @@ module _ (nums : Numbers) (size : ℕ) where
 
   create-ready : (id pri stack : ℕ) → 5 ≤ id → (r : Result (List ℕ × StoreWithLists) ℕ) (j : StoreWithLists) → create_it id pri stack r ≡ Ok j → ((x : List ℕ × StoreWithLists) → r ≡ Ok x → IsReady nums size x.1.lists) → IsReady nums size j.lists
   create-ready id pri stack low (Ok x) j is h =
-      let made : Made = create_task x.1.words x.1.lists id x.0 stack pri 0 in
+      let made : CallChange = create_task x.1.words x.1.lists id x.0 stack pri 0 in
       begin-ready made.answer (left_with x.1.words made.lists made.plain) j is (created-ready x.1.words x.1.lists id x.0 stack pri 0 low (h x refl))
   create-ready id pri stack low (Err code) j is h = cc
 

@@ -16,7 +16,7 @@ use Rattle.resident_tasks.specs.ConsoleHandler.ConsoleTurn.{answer_of, bytes_of,
 use Rattle.resident_tasks.specs.ConsoleHandler.Deliveries.{delivered, delivery, handed, with_read}
 use Rattle.resident_tasks.specs.ConsoleHandler.KeyPacket.{keys_taken}
 use Rattle.resident_tasks.specs.ConsoleHandler.Line.{flags_of, is_printed, key, keyed, with_end, with_finish, without_end}
-use Rattle.resident_tasks.specs.ConsoleHandler.Progress.{Progress, and_then, begun}
+use Rattle.resident_tasks.specs.ConsoleHandler.TurnParts.{ConsoleTurn, and_then, begun}
 use Rattle.resident_tasks.specs.ConsoleHandler.Reads.{put_off, read_taken, words_read_from}
 use Rattle.shell.specs.Modes.{awaited}
 use Rattle.kernel_machine.specs.KernelSteps.ResidentSteps.{console_step}
@@ -54,7 +54,7 @@ few-written s r = on (eqb r.kind 2)
 
 -- ---- the parts of a turn
 
-request-bytes : (s : List ℕ) (l : Lists) (r : Request) (g : Progress) → length (with_request s l r g).bytes ≤ length g.bytes + 4096
+request-bytes : (s : List ℕ) (l : Lists) (r : Request) (g : ConsoleTurn) → length (with_request s l r g).bytes ≤ length g.bytes + 4096
 request-bytes s l r g = on (eqb r.kind 1)
   where
     on : (b : Bool)
@@ -63,19 +63,19 @@ request-bytes s l r g = on (eqb r.kind 1)
     on true = omega arith
     on false = omega (arith, length-append g.bytes (bytes_of s r), few-written s r)
 
-first-bytes : (g : Progress) → length (with_first g).bytes ≤ length g.bytes + 4096
+first-bytes : (g : ConsoleTurn) → length (with_first g).bytes ≤ length g.bytes + 4096
 first-bytes g = on (first_request (words_taken g.words g.lists) (work g.lists))
   where
     on : (o : Option Request) → length (with_taken o (words_taken g.words g.lists) (taken g.lists).lists g).bytes ≤ length g.bytes + 4096
     on None = omega arith
     on (Some r) = request-bytes (words_taken g.words g.lists) (taken g.lists).lists r g
 
-key-bytes : (id : ℕ) (g : Progress) → length (with_key id g).bytes ≤ length g.bytes + 4096
+key-bytes : (id : ℕ) (g : ConsoleTurn) → length (with_key id g).bytes ≤ length g.bytes + 4096
 key-bytes id g =
     let b : ℕ = key_of (keys_taken g.lists).answer in
     omega (arith, length-append g.bytes (key g.console b).echo, few-echoed g.console b)
 
-treated-bytes : (id : ℕ) (ps : List QueuedPacket) (g : Progress) → length (treated id ps g).bytes ≤ length g.bytes + 4096
+treated-bytes : (id : ℕ) (ps : List QueuedPacket) (g : ConsoleTurn) → length (treated id ps g).bytes ≤ length g.bytes + 4096
 treated-bytes id [] g = omega arith
 treated-bytes id (p ∷ ps) g = on (is_key_packet g.lists p)
   where
@@ -83,14 +83,14 @@ treated-bytes id (p ∷ ps) g = on (is_key_packet g.lists p)
     on true = key-bytes id g
     on false = first-bytes g
 
-handed-bytes : (g : Progress) → (handed g).bytes ≡ g.bytes
+handed-bytes : (g : ConsoleTurn) → (handed g).bytes ≡ g.bytes
 handed-bytes g = on (first_request (words_read_from g.lists.pending g.words) g.lists.pending)
   where
     on : (o : Option Request) → (with_read o (words_read_from g.lists.pending g.words) (read_taken g.lists).lists g).bytes ≡ g.bytes
     on None = refl
     on (Some r) = refl
 
-delivered-bytes : (ps : List QueuedPacket) (g : Progress) → (delivered ps g).bytes ≡ g.bytes
+delivered-bytes : (ps : List QueuedPacket) (g : ConsoleTurn) → (delivered ps g).bytes ≡ g.bytes
 delivered-bytes [] g = refl
 delivered-bytes (p ∷ ps) g = on g.console.finished (delivered-bytes ps (handed g) ∙ handed-bytes g)
   where
@@ -98,7 +98,7 @@ delivered-bytes (p ∷ ps) g = on g.console.finished (delivered-bytes ps (handed
     on true more = more
     on false more = refl
 
-sent-bytes : (g : Progress) → (with_keys_sent g).bytes ≡ g.bytes
+sent-bytes : (g : ConsoleTurn) → (with_keys_sent g).bytes ≡ g.bytes
 sent-bytes g = on (is_some g.lists.key && not g.console.finished)
   where
     on : (b : Bool) → (cond b (keys_sent g) g).bytes ≡ g.bytes
@@ -107,6 +107,6 @@ sent-bytes g = on (is_some g.lists.key && not g.console.finished)
 
 pub console-bytes : (k : Kernel) → length (console_step k).bytes ≤ 4096
 console-bytes k =
-    let g : Progress = begun (image k) k.lists k.console k.shell.line in
-    let t : Progress = treated (awaited k.shell.mode) (work k.lists) g in
+    let g : ConsoleTurn = begun (image k) k.lists k.console k.shell.line in
+    let t : ConsoleTurn = treated (awaited k.shell.mode) (work k.lists) g in
     omega (arith, ap length (sent-bytes (delivery t)), ap length (delivered-bytes t.lists.pending t), treated-bytes (awaited k.shell.mode) (work k.lists) g)

@@ -21,7 +21,7 @@ use Rattle.resident_tasks.specs.declared.resident_requests.requests.Request.{Req
 use Rattle.resident_tasks.proofs.ResidentRequests.ResidentTurns.{takes-request}
 use Rattle.resident_tasks.specs.FaultReporter.FaultTurns.{CanReport, fault_turn, fault_turn_from, reported_turn, unknown}
 use Rattle.resident_tasks.specs.ConsoleHandler.ConsoleTurn.{RunsConsole, all_parts, console_turn, turn_done}
-use Rattle.resident_tasks.specs.ConsoleHandler.Progress.{Progress, begun}
+use Rattle.resident_tasks.specs.ConsoleHandler.TurnParts.{ConsoleTurn, begun}
 use Rattle.resident_tasks.specs.FileHandler.FileTurn.{RunsFileHandler, disc_after_turn, file_service, file_turn}
 use Rattle.resident_tasks.specs.PipeHandler.PipeTurns.{pipe_service, pipe_turn, pipes_after_turn}
 use Rattle.shell.specs.DoneParts.{IsShellTurn}
@@ -166,11 +166,11 @@ module _ (p : Parts) (k : Kernel) (st : RepresentsKernel p k) where
           → Leaves (record p { store = t; kinds = marks; console = console; shell = shell }) o n (console_step k)
       leaves-console t marks o n console shell is room now put =
           let here : IsResidentTurn t (MarksAll marks) o n (turn_done (image k) (console_parts k)) =
-          subst (λ (g : Progress). IsResidentTurn t (MarksAll marks) o n (turn_done (image k) g)) parts-here
+          subst (λ (g : ConsoleTurn). IsResidentTurn t (MarksAll marks) o n (turn_done (image k) g)) parts-here
           (subst (λ s. IsResidentTurn t (MarksAll marks) o n (turn_done s (all_parts id (begun p.store k.lists p.console line)))) store-is is)
           in
           let lines : RepresentsKernel (record p { console = console; shell = shell }) (with_console_lines (console_parts k) k) =
-          represents-beside p k st (now ∙ ap (λ (g : Progress). g.console) parts-here) (put ∙ (λ i. record (st.shell i) { line = (parts-here i).command })) st.disc st.pipes
+          represents-beside p k st (now ∙ ap (λ (g : ConsoleTurn). g.console) parts-here) (put ∙ (λ i. record (st.shell i) { line = (parts-here i).command })) st.disc st.pipes
           in
           leaves-resident (record p { console = console; shell = shell }) (with_console_lines (console_parts k) k) lines t marks o n (turn_done (image k) (console_parts k)) here store-size room
           (ap (λ x. x.period) (console-turned k r.can r.is).runs.numbers)

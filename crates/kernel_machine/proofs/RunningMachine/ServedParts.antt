@@ -13,7 +13,7 @@ use Rattle.kernel_model.proofs.KernelRecord.ImageWords.{image-list}
 use Rattle.kernel_model.specs.WordKinds.ByteMap.{MarksAll}
 use Rattle.kernel_model.specs.KernelDispatch.Dispatch.{CanDispatch, dispatched}
 use Rattle.kernel_model.specs.KernelDispatch.Turn.{IsDispatched}
-use Rattle.kernel_calls.specs.PacketCalls.Returned.{IsServed, Served}
+use Rattle.kernel_calls.specs.PacketCalls.Returned.{DeviceChange, IsServed}
 use Rattle.kernel_devices.specs.Tick.{ticked}
 use Rattle.kernel_devices.specs.Keys.{left_typed, met}
 use Rattle.kernel_devices.specs.Printed.{finished, printed}
@@ -41,7 +41,7 @@ represents-settled p k st t marks regs l plain r c knows room e same =
 -- ---- a device
 
 module _ (p : Parts) (k : Kernel) (st : RepresentsKernel p k) where
-  pub represents-served : (t : List ℕ) (m : Served) → IsServed p.store t k.lists m → m.lists.period ≡ k.lists.period → RepresentsKernel (record p { store = t }) (served k m).kernel
+  pub represents-served : (t : List ℕ) (m : DeviceChange) → IsServed p.store t k.lists m → m.lists.period ≡ k.lists.period → RepresentsKernel (record p { store = t }) (served k m).kernel
   unfolding settled
   represents-served t m is same =
       let found = represents-settled p k st t p.kinds p.regs m.lists [] k.regs is.lists (knows-same (MarksAll p.kinds) k.lists m.lists is.same st.keeper.knows) refl st.regs same in
@@ -89,7 +89,7 @@ module _ (p : Parts) (k : Kernel) (st : RepresentsKernel p k) where
   unfolding tick
   tick-not none = λ i. cond (none i) (served k (ticked k.lists)) (quietly k)
 
-  served-lists : (m : Served) → (served k m).kernel.lists ≡ m.lists
+  served-lists : (m : DeviceChange) → (served k m).kernel.lists ≡ m.lists
   unfolding settled
   served-lists m = refl
 
@@ -150,7 +150,7 @@ module _ (p : Parts) (k : Kernel) where
       let j : Kernel = with_key_typed k in
       let ahead : p.tty ≡ j.type_ahead = st.type_ahead in
       let here = represents-typed p j st typed (left_typed j.type_ahead j.lists.keyboard) (left ∙ ap (λ z. left_typed z j.lists.keyboard) ahead) in
-      let m : Served = met j.type_ahead j.lists in
+      let m : DeviceChange = met j.type_ahead j.lists in
       record {
         represents = represents-served (record p { tty = typed }) (record j { type_ahead = left_typed j.type_ahead j.lists.keyboard }) here t m (subst (λ z. IsServed p.store t j.lists (met z j.lists)) ahead is) (met-same can same);
         bytes = shown ∙ sym (append-nil o.shown);

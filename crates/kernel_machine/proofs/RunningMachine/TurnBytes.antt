@@ -10,7 +10,7 @@ use Rattle.kernel_model.specs.KernelRecord.Image.{image}
 use Rattle.kernel_model.specs.KernelRecord.Kernel.{Kernel}
 use Rattle.kernel_model.specs.KernelRecord.Lists.{Lists}
 use Rattle.kernel_model.specs.KernelRecord.ValidQueues.Place.{Work}
-use Rattle.kernel_calls.specs.CallAnswers.Made.{Made}
+use Rattle.kernel_calls.specs.CallAnswers.CallChange.{CallChange}
 use Rattle.kernel_calls.specs.PacketCalls.TaskWait.{taskwait}
 use Rattle.kernel_calls.specs.Calls.{kernel_call, made, of_wait, made_if_read}
 use Rattle.kernel_calls.specs.CallNumbers.{call_of}
@@ -35,7 +35,7 @@ use Rattle.resident_tasks.specs.FaultReporter.FaultTurns.{fault_turn, fault_turn
 use Rattle.resident_tasks.specs.FaultReporter.Texts.{is_unreported_word, most_in_line, report, report_at, reports, reports_in}
 use Rattle.resident_tasks.proofs.FaultReporter.ReportLines.{few_digits, lines-room, reports-read}
 
-wait-bytes : (r : Regs) (ps : List QueuedPacket) (m : Made) → length (of_wait r ps m).bytes ≤ 1
+wait-bytes : (r : Regs) (ps : List QueuedPacket) (m : CallChange) → length (of_wait r ps m).bytes ≤ 1
 wait-bytes r [] m = omega arith
 wait-bytes r (p ∷ ps) m = omega arith
 

@@ -13,7 +13,7 @@ use Rattle.kernel_model.proofs.KernelRecord.ImageWords.{image-list}
 use Rattle.kernel_model.proofs.KernelRecord.NotedInTurn.{notes-then}
 use Rattle.kernel_model.specs.WordKinds.ByteMap.{MarksAll}
 use Rattle.kernel_calls.specs.CallAnswers.Outside.{Outside}
-use Rattle.guest_turns.specs.GuestTurn.{IsTurned, Turned, numbers_of, turn_without_reporter}
+use Rattle.guest_turns.specs.GuestTurn.{GuestTurn, IsTurned, numbers_of, turn_without_reporter}
 use Rattle.guest_turns.specs.declared.turns.TurnEnd.{TurnEnd}
 use Rattle.guest_turns.specs.declared.turns.TurnEnd.TheVariants.{Faults, Goes, Quits}
 use Rattle.guest_turns.proofs.TurnFields.{turn-numbers}
@@ -31,7 +31,7 @@ use Rattle.kernel_machine.specs.RunningMachine.Leaves.{Leaves, RunsGuest}
 use Rattle.kernel_machine.proofs.RunningMachine.LeftParts.{represents-changed}
 
 -- where a turn does not end with a fault that is recorded
-pub not-recorded : (e : TurnEnd) (m : Turned) → ((f : Fault) → e ≡ Faults f → is_recorded m.lists f ≡ false) → reported_by e m ≡ m
+pub not-recorded : (e : TurnEnd) (m : GuestTurn) → ((f : Fault) → e ≡ Faults f → is_recorded m.lists f ≡ false) → reported_by e m ≡ m
 not-recorded Goes m never = refl
 not-recorded (Quits result) m never = refl
 not-recorded (Faults f) m never = on (is_recorded m.lists f) (never f refl)
@@ -45,7 +45,7 @@ pub one-fault : (e : TurnEnd) (g : Fault) (l : Lists) → e ≡ Faults g → is_
 one-fault e g l is none f same = let equal : f ≡ g = cc in ap (is_recorded l) equal ∙ none
 
 module _ (p : Parts) (k : Kernel) (st : RepresentsKernel p k) (task : ℕ) (g : RunsGuest task k) where
-  abbrev m : Turned
+  abbrev m : GuestTurn
   m = turn_without_reporter (image k) k.lists k.regs
 
   -- the store is the image
@@ -65,7 +65,7 @@ module _ (p : Parts) (k : Kernel) (st : RepresentsKernel p k) (task : ℕ) (g : 
     -- no fault is recorded
     module _ (never : (f : Fault) → end ≡ Faults f → is_recorded (turn_without_reporter p.store k.lists p.regs).lists f ≡ false) where
       stays : turn_of_guest (image k) k.lists k.regs ≡ m
-      stays = not-recorded m.ends m (λ f e. ap (λ (x : Turned). is_recorded x.lists f) (sym turned-here) ∙ never f (now.ends ∙ e))
+      stays = not-recorded m.ends m (λ f e. ap (λ (x : GuestTurn). is_recorded x.lists f) (sym turned-here) ∙ never f (now.ends ∙ e))
 
       pub leaves-turn : Leaves (record p { store = t; regs = regs; kinds = marks }) o n (guest_step k)
       leaves-turn =
@@ -77,12 +77,12 @@ module _ (p : Parts) (k : Kernel) (st : RepresentsKernel p k) (task : ℕ) (g : 
           })
 
       pub stop-turn : (stop : Option Stop) → stop ≡ stop_by task end → stop ≡ (guest_step k).kernel.stop
-      stop-turn stop e = e ∙ (λ i. stop_by (g.is i) (now.ends i)) ∙ ap (λ (x : Turned). stop_by k.lists.running x.ends) (sym stays)
+      stop-turn stop e = e ∙ (λ i. stop_by (g.is i) (now.ends i)) ∙ ap (λ (x : GuestTurn). stop_by k.lists.running x.ends) (sym stays)
 
     -- a fault is recorded
     module _ (f : Fault) (faults : end ≡ Faults f) (records : is_recorded (turn_without_reporter p.store k.lists p.regs).lists f ≡ true) where
       told : is_recorded m.lists f ≡ true
-      told = ap (λ (x : Turned). is_recorded x.lists f) (sym turned-here) ∙ records
+      told = ap (λ (x : GuestTurn). is_recorded x.lists f) (sym turned-here) ∙ records
 
       not-six : (b : Bool) → not b ≡ true → b ≡ false
       not-six true e = cc
@@ -94,7 +94,7 @@ module _ (p : Parts) (k : Kernel) (st : RepresentsKernel p k) (task : ℕ) (g : 
           record { ends = sym now.ends ∙ faults; reporter = both.0; other = not-six (eqb f.code 6) both.1 }
 
       pub can-record : CanRecord (turn_without_reporter p.store k.lists p.regs).lists f
-      can-record = subst (λ (x : Turned). CanRecord x.lists f) (sym turned-here) (recordable (image k) k.lists k.regs f (runs-calls k.lists k.regs g.can.first g.can.lists g.guest) is-recorded)
+      can-record = subst (λ (x : GuestTurn). CanRecord x.lists f) (sym turned-here) (recordable (image k) k.lists k.regs f (runs-calls k.lists k.regs g.can.first g.can.lists g.guest) is-recorded)
 
       records-it : turn_of_guest (image k) k.lists k.regs ≡ with_recorded f m
       records-it = ap (λ e. reported_by e m) is-recorded.ends ∙ ap (λ b. cond b (with_recorded f m) m) told
@@ -102,8 +102,8 @@ module _ (p : Parts) (k : Kernel) (st : RepresentsKernel p k) (task : ℕ) (g : 
       pub leaves-recorded : (u : List ℕ) (noted : Outside) → OwnsSame t u (turn_without_reporter p.store k.lists p.regs).lists (recorded f (turn_without_reporter p.store k.lists p.regs).lists) → noted.shown ≡ n.shown
           → NotesAll n.noted noted.noted n.failed noted.failed (recorded_events f (turn_without_reporter p.store k.lists p.regs).lists) → Leaves (record p { store = u; regs = regs; kinds = marks }) o noted (guest_step k)
       leaves-recorded u noted owns shown notes =
-          let here : OwnsSame t u m.lists (recorded f m.lists) = subst (λ (x : Turned). OwnsSame t u x.lists (recorded f x.lists)) turned-here owns in
-          let new : NotesAll n.noted noted.noted n.failed noted.failed (recorded_events f m.lists) = subst (λ (x : Turned). NotesAll n.noted noted.noted n.failed noted.failed (recorded_events f x.lists)) turned-here notes in
+          let here : OwnsSame t u m.lists (recorded f m.lists) = subst (λ (x : GuestTurn). OwnsSame t u x.lists (recorded f x.lists)) turned-here owns in
+          let new : NotesAll n.noted noted.noted n.failed noted.failed (recorded_events f m.lists) = subst (λ (x : GuestTurn). NotesAll n.noted noted.noted n.failed noted.failed (recorded_events f x.lists)) turned-here notes in
           let changed : IsChanged m.words u (recorded f m.lists) m.plain = changed-then m.words t u m.lists (recorded f m.lists) m.plain now.lists here.lists (λ a none. sym (here.same a) ∙ none) in
           subst (λ x. Leaves (record p { store = u; regs = regs; kinds = marks }) o noted (after_turn k x)) (sym records-it)
           (record {
@@ -115,4 +115,4 @@ module _ (p : Parts) (k : Kernel) (st : RepresentsKernel p k) (task : ℕ) (g : 
           })
 
       pub stop-recorded : None ≡ (guest_step k).kernel.stop
-      stop-recorded = ap (λ (x : Turned). stop_by k.lists.running x.ends) (sym records-it)
+      stop-recorded = ap (λ (x : GuestTurn). stop_by k.lists.running x.ends) (sym records-it)

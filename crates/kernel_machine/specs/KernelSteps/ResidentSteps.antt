@@ -11,7 +11,7 @@ use Rattle.resident_tasks.specs.ResidentRequests.Requests.{work}
 use Rattle.resident_tasks.specs.ResidentRequests.Turns.{ResidentTurn}
 use Rattle.resident_tasks.specs.FaultReporter.FaultTurns.{fault_turn}
 use Rattle.resident_tasks.specs.ConsoleHandler.ConsoleTurn.{all_parts, turn_done}
-use Rattle.resident_tasks.specs.ConsoleHandler.Progress.{Progress, begun}
+use Rattle.resident_tasks.specs.ConsoleHandler.TurnParts.{ConsoleTurn, begun}
 use Rattle.resident_tasks.specs.FileHandler.FileTurn.{disc_after_turn, file_turn}
 use Rattle.resident_tasks.specs.PipeHandler.PipeTurns.{pipe_turn, pipes_after_turn}
 use Rattle.shell.specs.Modes.{awaited}
@@ -46,11 +46,11 @@ reporter_step k = after_resident (fault_turn (image k) k.lists) k
 -- ---- the console
 
 -- what the console does in its turn, and how far it comes; the shell's wait says whose flags its keys set
-abbrev pub console_parts : Kernel → Progress
+abbrev pub console_parts : Kernel → ConsoleTurn
 console_parts k = all_parts (awaited k.shell.mode) (begun (image k) k.lists k.console k.shell.line)
 
 -- the machine with the console's line, and with the line that it hands to the shell
-abbrev pub with_console_lines : Progress → Kernel → Kernel
+abbrev pub with_console_lines : ConsoleTurn → Kernel → Kernel
 with_console_lines g k = record k { console = g.console; shell = record k.shell { line = g.command } }
 
 -- a step's turn, where the console runs

@@ -7,8 +7,8 @@ use Rattle.kernel_model.specs.KernelRecord.Image.{image, settled}
 use Rattle.kernel_model.specs.KernelRecord.Kernel.{Kernel}
 use Rattle.kernel_model.specs.KernelRecord.Residents.{key_packet, keyboard}
 use Rattle.kernel_model.specs.KernelRecord.Task.{is_guest_id}
-use Rattle.kernel_model.specs.KernelDispatch.Dispatch.{Dispatched, dispatched}
-use Rattle.kernel_calls.specs.PacketCalls.Returned.{Served}
+use Rattle.kernel_model.specs.KernelDispatch.Dispatch.{DispatchChange, dispatched}
+use Rattle.kernel_calls.specs.PacketCalls.Returned.{DeviceChange}
 use Rattle.kernel_devices.specs.Tick.{ticked}
 use Rattle.kernel_devices.specs.Keys.{left_typed, met}
 use Rattle.kernel_devices.specs.Printed.{finished, printed}
@@ -26,7 +26,7 @@ turn k = if is_guest_id k.lists.running then guest_step k else resident_step k.l
 -- ---- the devices
 
 -- what a device leaves: it writes no plain word, but for the link of a packet that comes or goes
-abbrev pub served : Kernel → Served → Stepped
+abbrev pub served : Kernel → DeviceChange → Stepped
 served k m = record { kernel = settled [] k m.lists; bytes = []; events = m.events }
 
 -- the clock ticks in the steps that are a multiple of its period
@@ -57,7 +57,7 @@ output k = record (served k (finished k.lists)) { bytes = printed (image k) k.li
 -- ---- dispatch
 
 -- the machine once a dispatch has left this: the task that runs, its registers and the dispatch's events
-abbrev pub switched : Kernel → Dispatched → Stepped
+abbrev pub switched : Kernel → DispatchChange → Stepped
 switched k m = record { kernel = record (settled m.plain k m.lists) { regs = m.regs }; bytes = []; events = m.events }
 
 -- the last part of a step: the first ready task goes on

@@ -24,7 +24,7 @@ use Rattle.kernel_model.proofs.KernelRecord.ChainSplits.{IsBetween, change-betwe
 use Rattle.kernel_model.proofs.KernelRecord.ChangedLists.{changed-then, knows-same}
 use Rattle.kernel_model.proofs.KernelRecord.NotedInTurn.{notes-one, notes-then}
 use Rattle.kernel_model.proofs.KernelRecord.RunningTask.{with_running}
-use Rattle.kernel_model.specs.KernelDispatch.Dispatch.{CanDispatch, Dispatched, dispatched, first_ready_task, goes_on, packets_taken, resumed, started, suspended, taken_event, unchanged, unlinked_words, with_next, with_packet_taken, with_resumed, with_suspended}
+use Rattle.kernel_model.specs.KernelDispatch.Dispatch.{CanDispatch, DispatchChange, dispatched, first_ready_task, goes_on, packets_taken, resumed, started, suspended, taken_event, unchanged, unlinked_words, with_next, with_packet_taken, with_resumed, with_suspended}
 use Rattle.kernel_model.specs.KernelDispatch.DispatchWords.{next_regs_in, with_running_saved, with_started}
 use Rattle.kernel_model.specs.KernelDispatch.Turn.{HasTaken, IsDispatched, IsNext}
 use Rattle.kernel_model.proofs.KernelDispatch.NextRegisters.{next-regs, own, same-work}
@@ -103,7 +103,7 @@ module _ (s0 s1 s2 s3 : List ℕ) (tells told : List ℕ → Type 0) (room : ℕ
       ∙ all-changes w.id l.running r l.tasks
       ∙ ap (λ i. map (change_of i resumed) (map (change_of l.running (suspended r)) l.tasks)) (sym (same-work l.running r w).id)
 
-  abbrev d : Dispatched
+  abbrev d : DispatchChange
   d = with_resumed s0 goal (with_suspended r l)
 
   same-lists : l3 ≡ d.lists

@@ -16,16 +16,16 @@ use Rattle.kernel_model.specs.KernelRecord.Running.{RunsAlone}
 use Rattle.kernel_model.specs.KernelRecord.Task.{Task, globals_of, is_guest_id, stack_of, task_address}
 use Rattle.kernel_model.specs.KernelRecord.ValidTasks.{dead, interrupted, no_regs, runs, waits}
 
--- What a dispatch leaves.
-pub record Dispatched : Type 0 where
+-- What a dispatch leaves: the parts of a KernelChange, and the registers.
+pub record DispatchChange : Type 0 where
   -- the lists
   pub lists : Lists
   -- the plain words that it wrote: the link of a packet that was taken
   pub plain : Pairs
-  -- the registers of the task that runs now
-  pub regs : Regs
   -- its events, in their order
   pub events : List KernelEvent
+  -- the registers of the task that runs now
+  pub regs : Regs
 
 -- ---- the task that ran
 
@@ -101,7 +101,7 @@ goes_on l None = false
 goes_on l (Some t) = (t.id == l.running) && (t.field == runs)
 
 -- nobody runs any more, which is an event where somebody did
-abbrev pub with_nobody : Lists → Dispatched
+abbrev pub with_nobody : Lists → DispatchChange
 with_nobody l = record {
   lists = record l { running = 0 };
   plain = [];
@@ -110,7 +110,7 @@ with_nobody l = record {
 }
 
 -- this task takes its packet, where it takes one, and runs
-abbrev pub with_resumed : List ℕ → Task → Lists → Dispatched
+abbrev pub with_resumed : List ℕ → Task → Lists → DispatchChange
 with_resumed words t l = record {
   lists = record (with_task t.id resumed l) { running = t.id };
   plain = unlinked_words (packets_taken t);
@@ -119,7 +119,7 @@ with_resumed words t l = record {
 }
 
 -- the ready task runs; without one nobody does
-abbrev pub with_next : List ℕ → Lists → Option Task → Dispatched
+abbrev pub with_next : List ℕ → Lists → Option Task → DispatchChange
 with_next words l None = with_nobody l
 with_next words l (Some t) = with_resumed words t l
 
@@ -132,11 +132,11 @@ abbrev pub first_ready_block : Lists → Option ℕ
 first_ready_block l = option_map task_address (first_ready_task l)
 
 -- the same task runs on with the same registers, and nothing is written
-abbrev pub unchanged : Lists → Regs → Dispatched
+abbrev pub unchanged : Lists → Regs → DispatchChange
 unchanged l r = record { lists = l; plain = []; regs = r; events = [] }
 
 -- The task that ran is suspended, and the first ready one goes on, unless it is that task and still runs.
-unfoldable pub dispatched : List ℕ → Lists → Regs → Dispatched
+unfoldable pub dispatched : List ℕ → Lists → Regs → DispatchChange
 dispatched words l r =
     if goes_on l (first_ready_task l) then unchanged l r else
     with_next words (with_suspended r l) (first_ready_task (with_suspended r l))

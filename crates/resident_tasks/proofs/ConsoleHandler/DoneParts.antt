@@ -19,7 +19,7 @@ use Rattle.kernel_model.specs.declared.kernel_record.numbers.TheConstants.{CONSO
 use Rattle.resident_tasks.specs.ConsoleHandler.ConsoleTurn.{ended, turn_done}
 use Rattle.resident_tasks.specs.ResidentRequests.Answers.{IsFinished, finished}
 use Rattle.resident_tasks.specs.ResidentRequests.Turns.{IsResidentTurn}
-use Rattle.resident_tasks.specs.ConsoleHandler.Progress.{IsDone, Progress, Start, and_then, begun, settled_words}
+use Rattle.resident_tasks.specs.ConsoleHandler.TurnParts.{ConsoleStart, ConsoleTurn, IsDone, and_then, begun, settled_words}
 use Rattle.resident_tasks.specs.ResidentRequests.Requests.{RunsResident}
 use Rattle.resident_tasks.proofs.ResidentRequests.ResidentTurns.{written-same}
 
@@ -62,7 +62,7 @@ done-none s l o tells room c k h runs is =
       is = is;
     }
 
-module _ (b : Start) (t : List ℕ) (tells : List ℕ → Type 0) (room : ℕ) (now : Outside) (c : Console) (k : List ℕ) (g : Progress) (x : IsDone b t tells room now c k g) where
+module _ (b : ConsoleStart) (t : List ℕ) (tells : List ℕ → Type 0) (room : ℕ) (now : Outside) (c : Console) (k : List ℕ) (g : ConsoleTurn) (x : IsDone b t tells room now c k g) where
   pub done-keeper : HasKeeper t tells room g.lists
   done-keeper = record { lists = x.lists.lists; knows = x.knows; enough = x.enough }
 
@@ -121,7 +121,7 @@ module _ (b : Start) (t : List ℕ) (tells : List ℕ → Type 0) (room : ℕ) (
 
 -- ---- the end
 
-module _ (b : Start) (t : List ℕ) (tells : List ℕ → Type 0) (room : ℕ) (now : Outside) (c : Console) (k : List ℕ) (g : Progress) (x : IsDone b t tells room now c k g) where
+module _ (b : ConsoleStart) (t : List ℕ) (tells : List ℕ → Type 0) (room : ℕ) (now : Outside) (c : Console) (k : List ℕ) (g : ConsoleTurn) (x : IsDone b t tells room now c k g) where
   pub done-ended : (u : List ℕ) → IsFinished t u g.lists → IsResidentTurn u tells b.outside now (turn_done b.words (ended g))
   done-ended u y =
       record {

@@ -12,7 +12,7 @@ use Rattle.kernel_model.proofs.KernelRecord.QueuedLinks.{queued-link}
 use Rattle.kernel_calls.proofs.CallAnswers.FoundTask.{reads}
 use Rattle.kernel_calls.proofs.PacketCalls.PlaceWords.{keys-exchange}
 use Rattle.resident_tasks.specs.ConsoleHandler.ConsoleTurn.{keys_sent, with_keys_sent}
-use Rattle.resident_tasks.specs.ConsoleHandler.Progress.{Progress}
+use Rattle.resident_tasks.specs.ConsoleHandler.TurnParts.{ConsoleTurn}
 use Rattle.kernel_model.proofs.KernelRecord.RecoveredLists.{size-low}
 
 module _ (s : List ℕ) (l : Lists) (h : HoldsLists s l) (residents : l.residents ≡ true) where
@@ -31,8 +31,8 @@ module _ (s : List ℕ) (l : Lists) (h : HoldsLists s l) (residents : l.resident
           queued false e = cc
 
 -- the key packet stays where it is
-pub keys-stay : (g : Progress) → (is_some g.lists.key && not g.console.finished) ≡ false → with_keys_sent g ≡ g
+pub keys-stay : (g : ConsoleTurn) → (is_some g.lists.key && not g.console.finished) ≡ false → with_keys_sent g ≡ g
 keys-stay g e = ap (λ f. cond f (keys_sent g) g) e
 
-pub keys-go : (g : Progress) → (is_some g.lists.key && not g.console.finished) ≡ true → with_keys_sent g ≡ keys_sent g
+pub keys-go : (g : ConsoleTurn) → (is_some g.lists.key && not g.console.finished) ≡ true → with_keys_sent g ≡ keys_sent g
 keys-go g e = ap (λ f. cond f (keys_sent g) g) e

@@ -13,7 +13,7 @@ use Rattle.kernel_model.specs.KernelRecord.NotedEvents.{NotesAll}
 use Rattle.kernel_model.specs.KernelRecord.Owned.{owned}
 use Rattle.kernel_model.proofs.KernelRecord.ChangedLists.{changed-then}
 use Rattle.kernel_model.proofs.KernelRecord.NotedInTurn.{notes-then}
-use Rattle.kernel_calls.specs.CallAnswers.Made.{IsMade, minus_one}
+use Rattle.kernel_calls.specs.CallAnswers.CallChange.{IsMade, minus_one}
 use Rattle.kernel_calls.specs.CallAnswers.Outside.{Outside, outside}
 use Rattle.resident_tasks.specs.ResidentRequests.Answers.{OwnsRequest, returned}
 use Rattle.resident_tasks.specs.ResidentRequests.Buffers.{is_writable, with_bytes, written_buffer}
@@ -23,7 +23,7 @@ use Rattle.resident_tasks.specs.declared.resident_requests.requests.Request.{Req
 use Rattle.resident_tasks.proofs.ResidentRequests.ResidentTurns.{keeper-written, turn-changed, written-then}
 use Rattle.kernel_model.specs.declared.kernel_record.numbers.TheConstants.{SHELL}
 use Rattle.resident_tasks.specs.ConsoleHandler.Deliveries.{command_after, given, handed, handed_if_finished, line_after, line_service, with_read, with_served}
-use Rattle.resident_tasks.specs.ConsoleHandler.Progress.{IsDone, Progress, Start}
+use Rattle.resident_tasks.specs.ConsoleHandler.TurnParts.{ConsoleStart, ConsoleTurn, IsDone}
 use Rattle.resident_tasks.specs.ConsoleHandler.Reads.{IsReadTaken, read_taken, read_taken_from, words_read_from}
 use Rattle.resident_tasks.proofs.ConsoleHandler.DoneParts.{done-then}
 use Rattle.resident_tasks.proofs.FileHandler.HandledCalls.{taken-few}
@@ -50,19 +50,19 @@ line-fits s l line r = on (eqb r.sender SHELL) (is_writable s l r.packet r.first
     on false true e = inr (r.second, e, omega (arith, taken-few (given line r) line))
     on false false e = inl refl
 
-module _ (b : Start) (t : List ℕ) (tells : List ℕ → Type 0) (room : ℕ) (now : Outside) (c : Console) (k : List ℕ) (g : Progress) (x : IsDone b t tells room now c k g) where
+module _ (b : ConsoleStart) (t : List ℕ) (tells : List ℕ → Type 0) (room : ℕ) (now : Outside) (c : Console) (k : List ℕ) (g : ConsoleTurn) (x : IsDone b t tells room now c k g) where
   -- the lines are others
   lines-done : (c' : Console) (k' : List ℕ) (d : Console) (j : List ℕ) → c' ≡ d → k' ≡ j → IsDone b t tells room now c' k' (record g { console = d; command = j })
   lines-done c' k' d j is_line is_shell =
       record { words = x.words; lists = x.lists; knows = x.knows; enough = x.enough; same = x.same; bytes = x.bytes; notes = x.notes; line = is_line; shell = is_shell; runs = x.runs; is = x.is }
 
-module _ (b : Start) (t : List ℕ) (tells : List ℕ → Type 0) (room : ℕ) (now : Outside) (c : Console) (k : List ℕ) (g : Progress) (x : IsDone b t tells room now c k g) where
+module _ (b : ConsoleStart) (t : List ℕ) (tells : List ℕ → Type 0) (room : ℕ) (now : Outside) (c : Console) (k : List ℕ) (g : ConsoleTurn) (x : IsDone b t tells room now c k g) where
   module _ (v : List ℕ) (told : List ℕ → Type 0) (after : ℕ) (noted : Option (List KernelEvent)) (failed : Bool) (room_is : after ≡ room) (notes : NotesAll now.noted noted now.failed failed (read_taken g.lists).events) where
     -- no read waits
     pub nothing-done : IsReadTaken t v told g.lists None → IsDone b v told after (outside now.shown noted failed) c k (handed_if_finished g)
     nothing-done y = on g.lists.pending y.knows y.words y.request notes
       where
-        either : (f : Bool) (p : Progress) → cond f p p ≡ p
+        either : (f : Bool) (p : ConsoleTurn) → cond f p p ≡ p
         either true p = refl
         either false p = refl
 

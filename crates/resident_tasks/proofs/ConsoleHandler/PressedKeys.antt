@@ -15,7 +15,7 @@ use Rattle.kernel_model.proofs.KernelRecord.ChangedLists.{knows-same}
 use Rattle.kernel_model.proofs.KernelRecord.NotedInTurn.{notes-none}
 use Rattle.kernel_lists.specs.OwnedWords.Owned.{owners}
 use Rattle.kernel_calls.specs.CallAnswers.Guests.{guest_tests}
-use Rattle.kernel_calls.specs.CallAnswers.Made.{Leaves, Made, by_refusal, done}
+use Rattle.kernel_calls.specs.CallAnswers.CallChange.{CallChange, Leaves, by_refusal, done}
 use Rattle.kernel_calls.specs.CallAnswers.Refusals.{first_refusal}
 use Rattle.kernel_calls.specs.TaskCalls.SetFlags.{flagged, set_flags}
 use Rattle.kernel_calls.proofs.TaskCalls.SameWords.{set_flags-owners}
@@ -24,7 +24,7 @@ use Rattle.resident_tasks.specs.ResidentRequests.Requests.{RunsResident, work}
 use Rattle.resident_tasks.specs.ConsoleHandler.ConsoleTurn.{key_of, with_flags, with_key, with_keys_taken}
 use Rattle.resident_tasks.specs.ConsoleHandler.KeyPacket.{keys_taken, keys_taken_from}
 use Rattle.resident_tasks.specs.ConsoleHandler.Line.{Keyed, key}
-use Rattle.resident_tasks.specs.ConsoleHandler.Progress.{IsDone, Progress, Start}
+use Rattle.resident_tasks.specs.ConsoleHandler.TurnParts.{ConsoleStart, ConsoleTurn, IsDone}
 use Rattle.resident_tasks.proofs.ConsoleHandler.DoneParts.{done-then}
 
 -- ---- flags
@@ -44,7 +44,7 @@ fields-flag : (running id f : ℕ) (ts : List Task) → AllByRecursion (RunsIf r
 fields-flag running id f [] all = tt
 fields-flag running id f (t ∷ ts) all = ((λ e. flag-field id f t ∙ all.0 (sym (flag-id id f t) ∙ e)), fields-flag running id f ts all.1)
 
-abbrev made-of : Lists → ℕ → ℕ → Option ℕ → Made
+abbrev made-of : Lists → ℕ → ℕ → Option ℕ → CallChange
 made-of l id f o = by_refusal o l (done (with_task id (flagged f) l))
 
 flags-plain : (l : Lists) (id f : ℕ) (o : Option ℕ) → (made-of l id f o).plain ≡ []
@@ -59,7 +59,7 @@ flags-runs : (l : Lists) (id f : ℕ) (o : Option ℕ) → RunsResident l → Ru
 flags-runs l id f None r = record { resident = r.resident; there = has_task-flag l.running id f l.tasks ∙ r.there; field = fields-flag l.running id f l.tasks r.field }
 flags-runs l id f (Some code) r = r
 
-module _ (b : Start) (t : List ℕ) (tells : List ℕ → Type 0) (room : ℕ) (now : Outside) (c : Console) (k : List ℕ) (g : Progress) (x : IsDone b t tells room now c k g) where
+module _ (b : ConsoleStart) (t : List ℕ) (tells : List ℕ → Type 0) (room : ℕ) (now : Outside) (c : Console) (k : List ℕ) (g : ConsoleTurn) (x : IsDone b t tells room now c k g) where
   pub flags-done : (u : List ℕ) (id f : ℕ) (answer : Result ℕ ℕ) → Leaves t u answer (set_flags g.lists id f) → IsDone b u tells room now c k (with_flags id f g)
   flags-done u id f answer y =
       let o : Option ℕ = first_refusal (guest_tests g.lists id) in
@@ -103,10 +103,10 @@ module _ (b : Start) (t : List ℕ) (tells : List ℕ → Type 0) (room : ℕ) (
       (subst (IsChanged t u (keys_taken g.lists).lists) (keys-plain (work g.lists)) y.lists) (knows-same tells g.lists (keys_taken g.lists).lists same x.knows) same notes still (keys-running (work g.lists))
 
 -- the key that was taken
-pub key-is : (g : Progress) (c : Console) (n f : ℕ) (answer : Result ℕ ℕ) → c ≡ g.console → Ok n ≡ answer → key c n ≡ key g.console (key_of answer)
+pub key-is : (g : ConsoleTurn) (c : Console) (n f : ℕ) (answer : Result ℕ ℕ) → c ≡ g.console → Ok n ≡ answer → key c n ≡ key g.console (key_of answer)
 key-is g c n f answer is_line is = λ i. key (is_line i) (key_of (is i))
 
-module _ (b : Start) (t : List ℕ) (tells : List ℕ → Type 0) (room : ℕ) (now : Outside) (c : Console) (k : List ℕ) (g : Progress) (x : IsDone b t tells room now c k g)
+module _ (b : ConsoleStart) (t : List ℕ) (tells : List ℕ → Type 0) (room : ℕ) (now : Outside) (c : Console) (k : List ℕ) (g : ConsoleTurn) (x : IsDone b t tells room now c k g)
     (v : List ℕ) (n : ℕ) (noted : Option (List KernelEvent)) (failed : Bool) (taken : Leaves t v (Ok n) (keys_taken g.lists))
     (same : (a : ℕ) → owners a (owned (keys_taken g.lists).lists) ≡ owners a (owned g.lists)) (still : RunsResident (keys_taken g.lists).lists) (notes : NotesAll now.noted noted now.failed failed (keys_taken g.lists).events) where
   abbrev pressed : Keyed

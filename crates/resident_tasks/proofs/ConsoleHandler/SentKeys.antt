@@ -5,20 +5,20 @@ use Rattle.kernel_model.specs.KernelRecord.Kernel.{Console}
 use Rattle.kernel_model.specs.KernelRecord.Lists.{Lists}
 use Rattle.kernel_model.specs.KernelRecord.NotedEvents.{NotesAll}
 use Rattle.kernel_model.specs.KernelRecord.Residents.{key_packet, keyboard}
-use Rattle.kernel_calls.specs.CallAnswers.Made.{IsMade, minus_one}
+use Rattle.kernel_calls.specs.CallAnswers.CallChange.{IsMade, minus_one}
 use Rattle.kernel_calls.specs.CallAnswers.Outside.{Outside, outside}
 use Rattle.kernel_calls.specs.PacketCalls.SendOwn.{CanSendOwn, send_own, with_sent}
 use Rattle.kernel_calls.proofs.PacketCalls.OwnPackets.{own-kept}
 use Rattle.resident_tasks.specs.ResidentRequests.Requests.{RunsResident}
 use Rattle.kernel_model.specs.declared.kernel_record.numbers.TheConstants.{CONSOLE}
 use Rattle.resident_tasks.specs.ConsoleHandler.ConsoleTurn.{keys_sent}
-use Rattle.resident_tasks.specs.ConsoleHandler.Progress.{IsDone, Progress, Start, settled_words}
+use Rattle.resident_tasks.specs.ConsoleHandler.TurnParts.{ConsoleStart, ConsoleTurn, IsDone, settled_words}
 use Rattle.resident_tasks.proofs.ConsoleHandler.DoneParts.{done-keeper, done-then}
 
 pub can-send : (l : Lists) → is_some l.key ≡ true → CanSendOwn l key_packet CONSOLE keyboard
 can-send l off = inr (record { packet = refl; off = off; sender = refl; to_keyboard = refl })
 
-module _ (b : Start) (t : List ℕ) (tells : List ℕ → Type 0) (room : ℕ) (now : Outside) (c : Console) (k : List ℕ) (g : Progress) (x : IsDone b t tells room now c k g) (off : is_some g.lists.key ≡ true) where
+module _ (b : ConsoleStart) (t : List ℕ) (tells : List ℕ → Type 0) (room : ℕ) (now : Outside) (c : Console) (k : List ℕ) (g : ConsoleTurn) (x : IsDone b t tells room now c k g) (off : is_some g.lists.key ≡ true) where
   runs : RunsResident (with_sent t key_packet CONSOLE keyboard g.lists)
   runs = record { resident = x.runs.resident; there = x.runs.there; field = x.runs.field }
 

@@ -30,7 +30,7 @@ use Rattle.kernel_model.proofs.KernelRecord.NotedInTurn.{notes-one}
 use Rattle.kernel_model.proofs.KernelRecord.PacketMoves.{unqueued-unowned}
 use Rattle.kernel_model.proofs.KernelRecord.QueuePlaces.{valid-at-place}
 use Rattle.kernel_model.proofs.KernelRecord.ResidentPackets.{key_unqueued-valid, owners-key}
-use Rattle.kernel_calls.specs.CallAnswers.Made.{Leaves}
+use Rattle.kernel_calls.specs.CallAnswers.CallChange.{Leaves}
 use Rattle.kernel_calls.specs.PacketCalls.Destinations.{queue_for}
 use Rattle.kernel_calls.specs.PacketCalls.PacketMoves.{is_on_queue}
 use Rattle.kernel_calls.specs.PacketCalls.QueueWords.{head_of, unqueued}

@@ -14,7 +14,7 @@ use Rattle.kernel_model.specs.KernelRecord.NotedEvents.{NotesAll}
 use Rattle.kernel_model.specs.KernelRecord.Owned.{owned}
 use Rattle.kernel_model.specs.KernelRecord.ValidQueues.Place.{Work}
 use Rattle.kernel_model.proofs.KernelRecord.NotedInTurn.{notes-then}
-use Rattle.kernel_calls.specs.CallAnswers.Made.{IsMade, minus_one}
+use Rattle.kernel_calls.specs.CallAnswers.CallChange.{IsMade, minus_one}
 use Rattle.kernel_calls.specs.CallAnswers.Outside.{Outside, outside}
 use Rattle.kernel_calls.proofs.PacketCalls.Departure.{owners-departed}
 use Rattle.resident_tasks.specs.ResidentRequests.Answers.{OwnsRequest, returned}
@@ -25,7 +25,7 @@ use Rattle.resident_tasks.proofs.ResidentRequests.ResidentTurns.{keeper-taken, t
 use Rattle.resident_tasks.proofs.ResidentRequests.TakenRequest.{taken-running}
 use Rattle.resident_tasks.specs.declared.console_handler.requests.TheConstants.{READ_LINE}
 use Rattle.resident_tasks.specs.ConsoleHandler.ConsoleTurn.{answer_of, bytes_of, with_first, with_request, with_taken}
-use Rattle.resident_tasks.specs.ConsoleHandler.Progress.{IsDone, Progress, Start, and_then}
+use Rattle.resident_tasks.specs.ConsoleHandler.TurnParts.{ConsoleStart, ConsoleTurn, IsDone, and_then}
 use Rattle.resident_tasks.specs.ConsoleHandler.Reads.{put_off}
 use Rattle.resident_tasks.proofs.ConsoleHandler.DoneParts.{bytes-done, done-residents, done-then}
 
@@ -43,7 +43,7 @@ taken-owners s t l r h e = on (work l) refl e
         let same : r ≡ request_at t p.address = cc in
         λ a. owners-departed s l (Work l.running) p [] ps h is a ∙ ap (λ (q : Request). owners a (owned (taken_from (p ∷ ps) l).lists) + times a (range_with_len q.packet 5)) (sym same)
 
-module _ (b : Start) (t : List ℕ) (tells : List ℕ → Type 0) (room : ℕ) (now : Outside) (c : Console) (k : List ℕ) (g : Progress) (x : IsDone b t tells room now c k g) where
+module _ (b : ConsoleStart) (t : List ℕ) (tells : List ℕ → Type 0) (room : ℕ) (now : Outside) (c : Console) (k : List ℕ) (g : ConsoleTurn) (x : IsDone b t tells room now c k g) where
   module _ (v : List ℕ) (told : List ℕ → Type 0) (after : ℕ) (noted : Option (List KernelEvent)) (failed : Bool) (r : Request) (y : IsTaken t v told g.lists (Some r)) (room_is : after ≡ room)
       (notes : NotesAll now.noted noted now.failed failed (taken g.lists).events) where
     abbrev m : Lists
@@ -88,7 +88,7 @@ module _ (b : Start) (t : List ℕ) (tells : List ℕ → Type 0) (room : ℕ) (
         (request-done u told' after' noted' failed' (put_off v m r).lists (put_off v m r).events room' made.leaves.lists made.knows owns
         (record { resident = y.runs.resident; there = y.runs.there; field = y.runs.field }) refl notes')
       where
-        answered : List ℕ → Progress
+        answered : List ℕ → ConsoleTurn
         answered z = record (and_then g (returned m r (answer_of z r)).lists [] ((taken g.lists).events ++ (returned m r (answer_of z r)).events)) { bytes = g.bytes ++ bytes_of z r }
 
     -- all else is answered
@@ -101,10 +101,10 @@ module _ (b : Start) (t : List ℕ) (tells : List ℕ → Type 0) (room : ℕ) (
         (bytes-done b u told' after' (outside now.shown noted' failed') c k _
         (request-done u told' after' noted' failed' (returned m r answer).lists (returned m r answer).events room' made.leaves.lists made.knows owns runs refl notes') (bytes_of v r) shown is_shown)
       where
-        waiting : Progress
+        waiting : ConsoleTurn
         waiting = and_then g (put_off v m r).lists [] ((taken g.lists).events ++ (put_off v m r).events)
 
-        with-answer : Result ℕ ℕ → Progress
+        with-answer : Result ℕ ℕ → ConsoleTurn
         with-answer a = record (and_then g (returned m r a).lists [] ((taken g.lists).events ++ (returned m r a).events)) { bytes = g.bytes ++ bytes_of v r }
 
   -- there was none

@@ -24,7 +24,7 @@ use Rattle.kernel_model.proofs.KernelRecord.NotedInTurn.{notes-none, notes-one}
 use Rattle.kernel_model.proofs.KernelRecord.PacketMoves.{unqueued-unowned, unqueued-valid}
 use Rattle.kernel_model.specs.WordKinds.Keeper.{AreTogether}
 use Rattle.kernel_model.proofs.WordKinds.KnownWords.{knows-claimed, knows-released}
-use Rattle.kernel_calls.specs.CallAnswers.Made.{IsMade, minus_one}
+use Rattle.kernel_calls.specs.CallAnswers.CallChange.{IsMade, minus_one}
 use Rattle.kernel_calls.proofs.CallAnswers.RootTold.{tick-told}
 use Rattle.kernel_calls.specs.PacketCalls.PacketMoves.{is_on_queue}
 use Rattle.kernel_calls.specs.PacketCalls.QueueWords.{sent_words, unqueued}

@@ -10,13 +10,13 @@ use Rattle.kernel_calls.specs.CallAnswers.Outside.{Outside}
 use Rattle.kernel_calls.proofs.PacketCalls.HeldPlaces.{queue-at}
 use Rattle.resident_tasks.specs.ResidentRequests.Requests.{first_request}
 use Rattle.resident_tasks.specs.ConsoleHandler.Deliveries.{delivered, delivery, handed, handed_if_finished, has_reads, is_handed, with_read}
-use Rattle.resident_tasks.specs.ConsoleHandler.Progress.{IsDone, Progress, Start}
+use Rattle.resident_tasks.specs.ConsoleHandler.TurnParts.{ConsoleStart, ConsoleTurn, IsDone}
 use Rattle.resident_tasks.specs.ConsoleHandler.Reads.{read_taken_from, words_read_from}
 use Rattle.resident_tasks.proofs.ConsoleHandler.DoneParts.{done-residents}
 
 -- so much was handed, and what is left gives the whole
-pub record HasDelivered (b : Start) (t : List ℕ) (tells : List ℕ → Type 0) (room : ℕ) (now : Outside) (c : Console) (k : List ℕ) (g : Progress) : Type 0 where
-  pub so : Progress
+pub record HasDelivered (b : ConsoleStart) (t : List ℕ) (tells : List ℕ → Type 0) (room : ℕ) (now : Outside) (c : Console) (k : List ℕ) (g : ConsoleTurn) : Type 0 where
+  pub so : ConsoleTurn
   pub done : IsDone b t tells room now c k so
   pub left : delivery so ≡ delivery g
 
@@ -30,11 +30,11 @@ reads-there : (ps : List QueuedPacket) → has_reads ps ≡ true → HasReads ps
 reads-there [] e = cc
 reads-there (p ∷ ps) e = record { packet = p; back = ps; is = refl }
 
-pub handed-pending : (g : Progress) (p : QueuedPacket) (ps : List QueuedPacket) → g.lists.pending ≡ p ∷ ps → (handed g).lists.pending ≡ ps
+pub handed-pending : (g : ConsoleTurn) (p : QueuedPacket) (ps : List QueuedPacket) → g.lists.pending ≡ p ∷ ps → (handed g).lists.pending ≡ ps
 handed-pending g p ps is =
     subst (λ z. (with_read (first_request (words_read_from z g.words) z) (words_read_from z g.words) (read_taken_from z g.lists).lists g).lists.pending ≡ ps) (sym is) refl
 
-module _ (g : Progress) (e : is_handed g ≡ true) where
+module _ (g : ConsoleTurn) (e : is_handed g ≡ true) where
   finished : g.console.finished ≡ true
   finished = (and_parts g.console.finished (has_reads g.lists.pending) e).0
 
@@ -45,7 +45,7 @@ module _ (g : Progress) (e : is_handed g ≡ true) where
   next-is = ap (λ f. cond f (handed g) g) finished
 
   next-pending : (handed_if_finished g).lists.pending ≡ first.back
-  next-pending = ap (λ (z : Progress). z.lists.pending) next-is ∙ handed-pending g first.packet first.back first.is
+  next-pending = ap (λ (z : ConsoleTurn). z.lists.pending) next-is ∙ handed-pending g first.packet first.back first.is
 
   pub next-left : delivery (handed_if_finished g) ≡ delivery g
   next-left =
@@ -53,7 +53,7 @@ module _ (g : Progress) (e : is_handed g ≡ true) where
       ∙ (ap (λ ps. delivered ps (handed g)) (handed-pending g first.packet first.back first.is)
       ∙ (sym (ap (λ f. cond f (delivered first.back (handed g)) g) finished) ∙ sym (ap (λ ps. delivered ps g) first.is)))
 
-pub none-left : (g : Progress) → is_handed g ≡ false → handed_if_finished g ≡ delivery g
+pub none-left : (g : ConsoleTurn) → is_handed g ≡ false → handed_if_finished g ≡ delivery g
 none-left g e = on g.console.finished g.lists.pending refl e
   where
     stays : (ps : List QueuedPacket) → g.console.finished ≡ false → delivered ps g ≡ g
@@ -67,11 +67,11 @@ none-left g e = on g.console.finished g.lists.pending refl e
     on false ps is e = sym (stays ps is)
 
 -- fewer wait
-module _ (b : Start) (t : List ℕ) (tells : List ℕ → Type 0) (room : ℕ) (now : Outside) (c : Console) (k : List ℕ) (g : Progress) (x : IsDone b t tells room now c k g) where
+module _ (b : ConsoleStart) (t : List ℕ) (tells : List ℕ → Type 0) (room : ℕ) (now : Outside) (c : Console) (k : List ℕ) (g : ConsoleTurn) (x : IsDone b t tells room now c k g) where
   pub waiting-is : queue_at t pending_head ≡ map address_of g.lists.pending
   waiting-is = queue-at t g.lists Pending x.lists.lists (done-residents b t tells room now c k g x)
 
-pub fewer-wait : (g : Progress) (t u : List ℕ) → is_handed g ≡ true → queue_at t pending_head ≡ map address_of g.lists.pending → queue_at u pending_head ≡ map address_of (handed_if_finished g).lists.pending
+pub fewer-wait : (g : ConsoleTurn) (t u : List ℕ) → is_handed g ≡ true → queue_at t pending_head ≡ map address_of g.lists.pending → queue_at u pending_head ≡ map address_of (handed_if_finished g).lists.pending
     → length (queue_at u pending_head) < length (queue_at t pending_head)
 fewer-wait g t u e before after =
     let x = first g e in

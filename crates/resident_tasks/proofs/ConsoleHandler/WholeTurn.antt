@@ -13,11 +13,11 @@ use Rattle.kernel_calls.specs.PacketCalls.TaskWait.{first_of_queue}
 use Rattle.resident_tasks.specs.ResidentRequests.Requests.{IsForeign, TakesRequest, work}
 use Rattle.resident_tasks.specs.ConsoleHandler.ConsoleTurn.{treated, with_first, with_key}
 use Rattle.resident_tasks.specs.ConsoleHandler.KeyPacket.{FindsKeys, StartsWithKeys}
-use Rattle.resident_tasks.specs.ConsoleHandler.Progress.{IsDone, Progress, Start}
+use Rattle.resident_tasks.specs.ConsoleHandler.TurnParts.{ConsoleStart, ConsoleTurn, IsDone}
 use Rattle.resident_tasks.proofs.ConsoleHandler.DoneParts.{done-residents}
 
 -- there is none
-pub none-treated : (id : ℕ) (g : Progress) → None ≡ first_of_queue (work g.lists) → treated id (work g.lists) g ≡ g
+pub none-treated : (id : ℕ) (g : ConsoleTurn) → None ≡ first_of_queue (work g.lists) → treated id (work g.lists) g ≡ g
 none-treated id g e = on (work g.lists) e
   where
     on : (ps : List QueuedPacket) → None ≡ first_of_queue ps → treated id ps g ≡ g
@@ -31,7 +31,7 @@ number_in Keyboard = 0
 number_in Output = 0
 number_in Pending = 0
 
-module _ (b : Start) (t : List ℕ) (tells : List ℕ → Type 0) (room : ℕ) (now : Outside) (c : Console) (k : List ℕ) (g : Progress) (x : IsDone b t tells room now c k g)
+module _ (b : ConsoleStart) (t : List ℕ) (tells : List ℕ → Type 0) (room : ℕ) (now : Outside) (c : Console) (k : List ℕ) (g : ConsoleTurn) (x : IsDone b t tells room now c k g)
     (p : ℕ) (e : Some p ≡ first_of_queue (work g.lists)) where
   residents : g.lists.residents ≡ true
   residents = done-residents b t tells room now c k g x

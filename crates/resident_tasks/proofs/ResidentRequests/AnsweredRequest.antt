@@ -2,7 +2,7 @@
 use Rattle.std.proofs.Common.{ℕ, Result, Ok, List, refl, sym, ◌∙◌}
 use Rattle.kernel_model.proofs.KernelRecord.ChangedLists.{changed-then, knows-same}
 use Rattle.kernel_model.specs.KernelRecord.Lists.{Lists}
-use Rattle.kernel_calls.specs.CallAnswers.Made.{IsMade, minus_one}
+use Rattle.kernel_calls.specs.CallAnswers.CallChange.{IsMade, minus_one}
 use Rattle.resident_tasks.specs.ResidentRequests.Answers.{IsFinished, answered, finished, returned}
 use Rattle.resident_tasks.specs.declared.resident_requests.requests.Request.{Request}
 

@@ -16,7 +16,7 @@ use Rattle.kernel_model.specs.KernelRecord.ValidLists.{AreValid}
 use Rattle.kernel_model.specs.KernelRecord.ValidQueues.{IsFaultPacket, IsKeyPacket, IsValidPacket, Place, is_fault_packet, is_key_packet}
 use Rattle.kernel_model.specs.KernelRecord.ValidQueues.Place.{Clock, Keyboard, Output, Pending, Work}
 use Rattle.kernel_model.proofs.KernelRecord.QueuePlaces.{valid-at-place}
-use Rattle.kernel_calls.specs.CallAnswers.Made.{IsMade, minus_one}
+use Rattle.kernel_calls.specs.CallAnswers.CallChange.{IsMade, minus_one}
 use Rattle.kernel_calls.specs.CallAnswers.Outside.{outside}
 use Rattle.kernel_model.proofs.KernelRecord.ChangedLists.{changed-none, changed-then, knows-same}
 use Rattle.kernel_model.specs.KernelRecord.HoldsLists.{HoldsLists}

@@ -16,7 +16,7 @@ use Rattle.kernel_model.specs.KernelRecord.ValidLists.{AreValid}
 use Rattle.kernel_model.specs.KernelRecord.ValidQueues.Place.{Work}
 use Rattle.kernel_model.specs.WordKinds.Keeper.{AreTogether}
 use Rattle.kernel_model.proofs.WordKinds.KnownWords.{knows-claimed}
-use Rattle.kernel_calls.specs.CallAnswers.Made.{IsMade, Leaves, Made, minus_one}
+use Rattle.kernel_calls.specs.CallAnswers.CallChange.{CallChange, IsMade, Leaves, minus_one}
 use Rattle.kernel_calls.specs.PacketCalls.PacketMoves.{with_arrived}
 use Rattle.kernel_calls.proofs.PacketCalls.Arrival.{owners-arrived}
 use Rattle.kernel_calls.specs.PacketCalls.Reply.{CanReply, reply}
@@ -46,7 +46,7 @@ module _ (s : List ℕ) (tells : List ℕ → Type 0) (room : ℕ) (l : Lists) (
     abbrev ps : List QueuedPacket
     ps = queue_of (Work r.sender) l
 
-    abbrev made-by : ℕ → ℕ → ℕ → Made
+    abbrev made-by : ℕ → ℕ → ℕ → CallChange
     made-by sender kind number = record {
       answer = Ok minus_one;
       lists = with_arrived (Work sender) (record { address = r.packet; sender = number; kind = kind; res1 = res1_of answer; last = res2_of answer }) l;

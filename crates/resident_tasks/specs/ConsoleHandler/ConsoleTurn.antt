@@ -18,7 +18,7 @@ use Rattle.resident_tasks.specs.declared.console_handler.requests.TheConstants.{
 use Rattle.resident_tasks.specs.ConsoleHandler.Deliveries.{delivery}
 use Rattle.resident_tasks.specs.ConsoleHandler.KeyPacket.{keys_taken}
 use Rattle.resident_tasks.specs.ConsoleHandler.Line.{Keyed, key}
-use Rattle.resident_tasks.specs.ConsoleHandler.Progress.{Progress, and_then, begun}
+use Rattle.resident_tasks.specs.ConsoleHandler.TurnParts.{ConsoleTurn, and_then, begun}
 use Rattle.resident_tasks.specs.ConsoleHandler.Reads.{put_off}
 
 -- the console runs
@@ -31,15 +31,15 @@ pub record RunsConsole (l : Lists) : Type 0 where
 -- ---- a key
 
 -- the task for which the shell waits gets the flags, where it is there
-abbrev pub with_flags : ℕ → ℕ → Progress → Progress
+abbrev pub with_flags : ℕ → ℕ → ConsoleTurn → ConsoleTurn
 with_flags id flags g = and_then g (set_flags g.lists id flags).lists [] []
 
 -- The line becomes what the key makes of it, the echo goes out, and the task for which the shell waits gets the flags of the key.
-abbrev pub with_keyed : ℕ → Keyed → Progress → Progress
+abbrev pub with_keyed : ℕ → Keyed → ConsoleTurn → ConsoleTurn
 with_keyed id k g = with_flags id k.flags (record g { console = k.console; bytes = g.bytes ++ k.echo })
 
 -- the key packet is taken, and on no queue
-abbrev pub with_keys_taken : Progress → Progress
+abbrev pub with_keys_taken : ConsoleTurn → ConsoleTurn
 with_keys_taken g = and_then g (keys_taken g.lists).lists [] (keys_taken g.lists).events
 
 -- the key that the key packet brought
@@ -48,7 +48,7 @@ key_of (Ok b) = b
 key_of (Err code) = 0
 
 -- the key packet is taken, and its key is treated
-abbrev pub with_key : ℕ → Progress → Progress
+abbrev pub with_key : ℕ → ConsoleTurn → ConsoleTurn
 with_key id g = with_keyed id (key g.console (key_of (keys_taken g.lists).answer)) (with_keys_taken g)
 
 -- ---- a request
@@ -69,25 +69,25 @@ abbrev pub bytes_of : List ℕ → Request → List ℕ
 bytes_of s r = if r.kind == WRITE then written_bytes s r else []
 
 -- a read waits; all else is answered at once
-abbrev pub with_request : List ℕ → Lists → Request → Progress → Progress
+abbrev pub with_request : List ℕ → Lists → Request → ConsoleTurn → ConsoleTurn
 with_request s l r g =
     if r.kind == READ_LINE
     then and_then g (put_off s l r).lists [] ((taken g.lists).events ++ (put_off s l r).events)
     else record (and_then g (returned l r (answer_of s r)).lists [] ((taken g.lists).events ++ (returned l r (answer_of s r)).events)) { bytes = g.bytes ++ bytes_of s r }
 
 -- the request that was taken is treated, where there was one
-abbrev pub with_taken : Option Request → List ℕ → Lists → Progress → Progress
+abbrev pub with_taken : Option Request → List ℕ → Lists → ConsoleTurn → ConsoleTurn
 with_taken None s l g = g
 with_taken (Some r) s l g = with_request s l r g
 
 -- the first request is taken and treated
-abbrev pub with_first : Progress → Progress
+abbrev pub with_first : ConsoleTurn → ConsoleTurn
 with_first g = with_taken (first_request (words_taken g.words g.lists) (work g.lists)) (words_taken g.words g.lists) (taken g.lists).lists g
 
 -- ---- the turn
 
 -- the first packet is treated: as the key packet, or else as a request; without a packet nothing is done
-abbrev pub treated : ℕ → List QueuedPacket → Progress → Progress
+abbrev pub treated : ℕ → List QueuedPacket → ConsoleTurn → ConsoleTurn
 treated id [] g = g
 treated id (p ∷ ps) g =
     if is_key_packet g.lists p
@@ -95,26 +95,26 @@ treated id (p ∷ ps) g =
     else with_first g
 
 -- the key packet is sent to the keyboard
-abbrev pub keys_sent : Progress → Progress
+abbrev pub keys_sent : ConsoleTurn → ConsoleTurn
 keys_sent g =
     and_then g (send_own g.words g.lists key_packet CONSOLE keyboard).lists []
     (send_own g.words g.lists key_packet CONSOLE keyboard).events
 
 -- the key packet is sent, unless it is on a queue, or a finished line waits
-abbrev pub with_keys_sent : Progress → Progress
+abbrev pub with_keys_sent : ConsoleTurn → ConsoleTurn
 with_keys_sent g = if is_some g.lists.key && not g.console.finished then keys_sent g else g
 
 -- the resident waits where it has no packets
-abbrev pub ended : Progress → Progress
+abbrev pub ended : ConsoleTurn → ConsoleTurn
 ended g = record g { lists = finished g.lists }
 
 -- Its first packet is treated, a finished line is delivered, and the key packet is sent. The shell waits for the task with this
 -- number, or for none.
-abbrev pub all_parts : ℕ → Progress → Progress
+abbrev pub all_parts : ℕ → ConsoleTurn → ConsoleTurn
 all_parts id g = ended (with_keys_sent (delivery (treated id (work g.lists) g)))
 
 -- what they leave
-abbrev pub turn_done : List ℕ → Progress → ResidentTurn
+abbrev pub turn_done : List ℕ → ConsoleTurn → ResidentTurn
 turn_done s g = record { words = s; lists = g.lists; plain = g.plain; bytes = g.bytes; events = g.events }
 
 -- the console's turn, from what it keeps: the line, and the command of the shell

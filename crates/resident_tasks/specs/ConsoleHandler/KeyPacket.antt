@@ -7,7 +7,7 @@ use Rattle.kernel_model.specs.KernelRecord.Changes.{with_key, with_queue}
 use Rattle.kernel_model.specs.KernelRecord.Lists.{Lists}
 use Rattle.kernel_model.specs.KernelRecord.ValidQueues.{is_key_packet}
 use Rattle.kernel_model.specs.KernelRecord.ValidQueues.Place.{Work}
-use Rattle.kernel_calls.specs.CallAnswers.Made.{Made, done}
+use Rattle.kernel_calls.specs.CallAnswers.CallChange.{CallChange, done}
 use Rattle.resident_tasks.specs.ResidentRequests.Requests.{RunsResident, work}
 
 -- the first packet of the queue is the key packet
@@ -23,7 +23,7 @@ pub record FindsKeys (l : Lists) : Type 0 where
   pub first : StartsWithKeys l (work l)
 
 -- The key packet, first of these, is taken, and then on no queue. The answer is its key.
-abbrev pub keys_taken_from : List QueuedPacket → Lists → Made
+abbrev pub keys_taken_from : List QueuedPacket → Lists → CallChange
 keys_taken_from [] l = done l
 keys_taken_from (p ∷ ps) l = record {
   answer = Ok p.res1;
@@ -33,5 +33,5 @@ keys_taken_from (p ∷ ps) l = record {
 }
 
 -- the running task takes the key packet
-abbrev pub keys_taken : Lists → Made
+abbrev pub keys_taken : Lists → CallChange
 keys_taken l = keys_taken_from (work l) l

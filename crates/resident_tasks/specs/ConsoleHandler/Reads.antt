@@ -8,19 +8,19 @@ use Rattle.kernel_model.specs.KernelRecord.ChangedStore.{IsChanged, Knows}
 use Rattle.kernel_model.specs.KernelRecord.Changes.{with_queue}
 use Rattle.kernel_model.specs.KernelRecord.Lists.{Lists}
 use Rattle.kernel_model.specs.KernelRecord.ValidQueues.Place.{Pending}
-use Rattle.kernel_calls.specs.CallAnswers.Made.{Made, minus_one}
+use Rattle.kernel_calls.specs.CallAnswers.CallChange.{CallChange, minus_one}
 use Rattle.kernel_calls.specs.PacketCalls.PacketMoves.{sent_packet, with_arrived}
 use Rattle.kernel_calls.specs.PacketCalls.QueueWords.{unqueued}
 use Rattle.kernel_calls.specs.declared.packet_calls.queues.Queue.TheVariants as queues
 use Rattle.resident_tasks.specs.ResidentRequests.Answers.{OwnsRequest}
-use Rattle.resident_tasks.specs.ResidentRequests.Requests.{HasRequest, Taking, first_request}
+use Rattle.resident_tasks.specs.ResidentRequests.Requests.{HasRequest, KernelChange, first_request}
 use Rattle.resident_tasks.specs.declared.resident_requests.requests.Request.{Request}
 use Rattle.kernel_model.specs.declared.kernel_record.numbers.TheConstants.{PENDING}
 
 -- ---- a read comes
 
 -- a read that was taken is put at the end of those that wait for a line
-abbrev pub put_off : List ℕ → Lists → Request → Made
+abbrev pub put_off : List ℕ → Lists → Request → CallChange
 put_off s l r = record {
   answer = Ok minus_one;
   lists = with_arrived Pending (sent_packet s l Pending r.packet r.sender) l;
@@ -31,7 +31,7 @@ put_off s l r = record {
 -- ---- the first read goes
 
 -- The first of these reads is taken, and is then on no queue; without one nothing is done.
-abbrev pub read_taken_from : List QueuedPacket → Lists → Taking
+abbrev pub read_taken_from : List QueuedPacket → Lists → KernelChange
 read_taken_from [] l = record { lists = l; plain = []; events = [] }
 read_taken_from (p ∷ ps) l = record {
   lists = with_queue Pending ps l;
@@ -40,7 +40,7 @@ read_taken_from (p ∷ ps) l = record {
 }
 
 -- the first read that waits is taken
-abbrev pub read_taken : Lists → Taking
+abbrev pub read_taken : Lists → KernelChange
 read_taken l = read_taken_from l.pending l
 
 -- the store then

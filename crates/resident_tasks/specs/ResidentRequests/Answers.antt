@@ -11,7 +11,7 @@ use Rattle.kernel_model.specs.KernelRecord.Changes.{with_task}
 use Rattle.kernel_model.specs.KernelRecord.Lists.{Lists}
 use Rattle.kernel_model.specs.KernelRecord.Owned.{owned}
 use Rattle.kernel_model.specs.KernelRecord.ValidQueues.Place.{Work}
-use Rattle.kernel_calls.specs.CallAnswers.Made.{Made, minus_one}
+use Rattle.kernel_calls.specs.CallAnswers.CallChange.{CallChange, minus_one}
 use Rattle.kernel_calls.specs.PacketCalls.PacketMoves.{with_arrived}
 use Rattle.kernel_calls.specs.PacketCalls.TaskWait.{waiting}
 use Rattle.kernel_model.specs.declared.kernel_record.numbers.TheConstants.{PACKET_WORDS}
@@ -33,7 +33,7 @@ abbrev pub answered_packet : Lists → Request → Result ℕ ℕ → QueuedPack
 answered_packet l r answer = record { address = r.packet; sender = l.running; kind = r.kind; res1 = res1_of answer; last = res2_of answer }
 
 -- a request comes to the end of its sender's work queue, with its answer
-abbrev pub returned : Lists → Request → Result ℕ ℕ → Made
+abbrev pub returned : Lists → Request → Result ℕ ℕ → CallChange
 returned l r answer = record {
   answer = Ok minus_one;
   lists = with_arrived (Work r.sender) (answered_packet l r answer) l;
@@ -62,5 +62,5 @@ pub record IsFinished (s t : List ℕ) (l : Lists) : Type 0 where
   pub same : (a : ℕ) → owners a (owned (finished l)) ≡ owners a (owned l)
 
 -- the request is returned, and the turn ends
-abbrev pub answered : Lists → Request → Result ℕ ℕ → Made
+abbrev pub answered : Lists → Request → Result ℕ ℕ → CallChange
 answered l r answer = record (returned l r answer) { lists = finished (returned l r answer).lists }

@@ -1,13 +1,12 @@
 -- A resident takes a request: its first packet, which is then on no queue.
 use Rattle.std.specs.Prelude.{◌≡◌, ℕ, ◌+◌, Option, Some, None, true, false, IfSome, List, [], ◌∷◌, slice_index}
 use Rattle.word_store.specs.Arithmetic.{signed}
-use Rattle.kernel_lists.specs.OwnedWords.Owned.{Pairs}
 use Rattle.kernel_lists.specs.PacketQueue.Queue.{no_queue}
 use Rattle.kernel_lists.specs.PacketQueue.QueueWords.{QueuedPacket}
-use Rattle.kernel_lists.specs.declared.packet_queue.events.KernelEvent.{KernelEvent}
 use Rattle.kernel_lists.specs.declared.packet_queue.events.KernelEvent.TheVariants.{Taken}
 use Rattle.kernel_model.specs.KernelRecord.ChangedStore.{IsChanged, Knows}
 use Rattle.kernel_model.specs.KernelRecord.Changes.{AreUnowned, queue_of, with_queue}
+use Rattle.kernel_model.specs.KernelRecord.KernelChange.{KernelChange}
 use Rattle.kernel_model.specs.KernelRecord.Lists.{Lists, has_task}
 use Rattle.kernel_model.specs.KernelRecord.Running.{RunsAlive}
 use Rattle.kernel_model.specs.KernelRecord.Task.{is_guest_id}
@@ -46,17 +45,8 @@ pub record TakesRequest (l : Lists) : Type 0 where
 
 -- ---- what taking leaves
 
--- the lists, the plain words that were written, and the events
-pub record Taking : Type 0 where
-  -- the lists
-  pub lists : Lists
-  -- the plain words that were written
-  pub plain : Pairs
-  -- the events, in their order
-  pub events : List KernelEvent
-
 -- the running task takes the first of these packets from its work queue
-abbrev pub taken_from : List QueuedPacket → Lists → Taking
+abbrev pub taken_from : List QueuedPacket → Lists → KernelChange
 taken_from [] l = record { lists = l; plain = []; events = [] }
 taken_from (p ∷ ps) l = record {
   lists = with_queue (Work l.running) ps l;
@@ -65,7 +55,7 @@ taken_from (p ∷ ps) l = record {
 }
 
 -- the running task takes its first packet
-abbrev pub taken : Lists → Taking
+abbrev pub taken : Lists → KernelChange
 taken l = taken_from (work l) l
 
 -- the store then: what a handler reads, it reads of this one

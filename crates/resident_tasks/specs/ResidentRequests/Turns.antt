@@ -11,8 +11,8 @@ use Rattle.resident_tasks.specs.ResidentRequests.Buffers.{is_writable, written_b
 use Rattle.resident_tasks.specs.ResidentRequests.Requests.{HasRequest, first_request, taken, words_taken, work}
 use Rattle.resident_tasks.specs.declared.resident_requests.requests.Request.{Request}
 
--- The words as they were before it, the lists, the plain words that were written over those, the bytes that went to the console, and
--- the events.
+-- What a resident's turn leaves: the words as they were before it, the parts of a KernelChange of these, and the bytes that went to the
+-- console.
 pub record ResidentTurn : Type 0 where
   -- the words of the store when the request was taken
   pub words : List ℕ
@@ -20,10 +20,10 @@ pub record ResidentTurn : Type 0 where
   pub lists : Lists
   -- the plain words that were written
   pub plain : Pairs
-  -- the bytes that went to the console
-  pub bytes : List ℕ
   -- the events, in their order
   pub events : List KernelEvent
+  -- the bytes that went to the console
+  pub bytes : List ℕ
 
 -- The store is t: it holds the lists that the turn leaves, and of the other words its plain ones have changed; the keeper knows the
 -- words of those lists; its bytes went to the console, and its events to the log.

@@ -3,7 +3,7 @@ ghost use Rattle.std.specs.Prelude.{◌≡◌, ◌≤◌, List, length, ℕ};
 ghost use Rattle.kernel_calls.specs.CallAnswers.Outside.{outside};
 ghost use Rattle.kernel_model.specs.KernelRecord.Lists.{Lists};
 ghost use Rattle.resident_tasks.specs.ConsoleHandler.Deliveries.{command_after, delivery, handed_if_finished, is_handed, line_after, line_service};
-ghost use Rattle.resident_tasks.specs.ConsoleHandler.Progress.{IsDone, Progress, Start};
+ghost use Rattle.resident_tasks.specs.ConsoleHandler.TurnParts.{ConsoleStart, ConsoleTurn, IsDone};
 ghost use Rattle.resident_tasks.specs.ResidentRequests.Turns.{service};
 ghost use Rattle.kernel_model.specs.KernelRecord.ChangedStore.{HasKeeper};
 
@@ -26,10 +26,10 @@ pub(crate) fn deliver<Q: KindKeeper, L: EventLog>(
     kinds: &mut Q,
     log: &mut L,
 )
-    requires { (b : Start) × (shown : List ℕ) × (g : Progress)
+    requires { (b : ConsoleStart) × (shown : List ℕ) × (g : ConsoleTurn)
         × IsDone b store.old (Q.tells kinds.old) (Q.room kinds.old)
         (outside shown (L.noted log.old) (L.has_failed log.old)) state.old shell_line.old.items g }
-    ensures done { (b : Start) (shown : List ℕ) (g : Progress)
+    ensures done { (b : ConsoleStart) (shown : List ℕ) (g : ConsoleTurn)
         → IsDone b store.old (Q.tells kinds.old) (Q.room kinds.old)
         (outside shown (L.noted log.old) (L.has_failed log.old)) state.old shell_line.old.items g
         → IsDone b store.new (Q.tells kinds.new) (Q.room kinds.new)
@@ -49,16 +49,16 @@ fn deliver_first<Q: KindKeeper, L: EventLog>(
     kinds: &mut Q,
     log: &mut L,
 ) -> bool
-    requires { (b : Start) × (shown : List ℕ) × (g : Progress)
+    requires { (b : ConsoleStart) × (shown : List ℕ) × (g : ConsoleTurn)
         × IsDone b store.old (Q.tells kinds.old) (Q.room kinds.old)
         (outside shown (L.noted log.old) (L.has_failed log.old)) state.old shell_line.old.items g }
-    ensures done { (b : Start) (shown : List ℕ) (g : Progress)
+    ensures done { (b : ConsoleStart) (shown : List ℕ) (g : ConsoleTurn)
         → IsDone b store.old (Q.tells kinds.old) (Q.room kinds.old)
         (outside shown (L.noted log.old) (L.has_failed log.old)) state.old shell_line.old.items g
         → IsDone b store.new (Q.tells kinds.new) (Q.room kinds.new)
         (outside shown (L.noted log.new) (L.has_failed log.new)) state.new shell_line.new.items
         (handed_if_finished g) }
-    ensures handed { (b : Start) (shown : List ℕ) (g : Progress)
+    ensures handed { (b : ConsoleStart) (shown : List ℕ) (g : ConsoleTurn)
         → IsDone b store.old (Q.tells kinds.old) (Q.room kinds.old)
         (outside shown (L.noted log.old) (L.has_failed log.old)) state.old shell_line.old.items g
         → result ≡ is_handed g }

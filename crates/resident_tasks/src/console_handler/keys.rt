@@ -4,12 +4,12 @@ ghost use Rattle.kernel_lists.specs.OwnedWords.Owned.{owners};
 ghost use Rattle.kernel_model.specs.KernelRecord.HoldsLists.{HoldsLists};
 ghost use Rattle.kernel_model.specs.KernelRecord.Lists.{Lists};
 ghost use Rattle.kernel_model.specs.KernelRecord.Owned.{owned};
-ghost use Rattle.kernel_calls.specs.CallAnswers.Made.{Leaves};
+ghost use Rattle.kernel_calls.specs.CallAnswers.CallChange.{Leaves};
 ghost use Rattle.kernel_calls.specs.CallAnswers.Outside.{outside};
 ghost use Rattle.kernel_model.specs.KernelRecord.Kernel.{Console};
 ghost use Rattle.resident_tasks.specs.ConsoleHandler.ConsoleTurn.{keys_sent, with_keys_sent};
 ghost use Rattle.resident_tasks.specs.ConsoleHandler.KeyPacket.{FindsKeys, keys_taken};
-ghost use Rattle.resident_tasks.specs.ConsoleHandler.Progress.{IsDone, Progress, Start};
+ghost use Rattle.resident_tasks.specs.ConsoleHandler.TurnParts.{ConsoleStart, ConsoleTurn, IsDone};
 ghost use Rattle.resident_tasks.specs.ResidentRequests.Requests.{RunsResident};
 ghost use Rattle.kernel_model.specs.KernelRecord.LoggedEvents.{LogsAll};
 
@@ -42,10 +42,10 @@ pub fn take_keys<L: EventLog>(store: &mut Store, log: &mut L) -> u32
 
 /// Sends the key packet, which is on no queue, to the keyboard.
 pub(crate) fn send_keys<Q: KindKeeper, L: EventLog>(store: &mut Store, kinds: &mut Q, log: &mut L)
-    requires { (b : Start) × (shown : List ℕ) × (c : Console) × (k : List ℕ) × (g : Progress)
+    requires { (b : ConsoleStart) × (shown : List ℕ) × (c : Console) × (k : List ℕ) × (g : ConsoleTurn)
         × IsDone b store.old (Q.tells kinds.old) (Q.room kinds.old)
         (outside shown (L.noted log.old) (L.has_failed log.old)) c k g × (is_some g.lists.key ≡ true) }
-    ensures done { (b : Start) (shown : List ℕ) (c : Console) (k : List ℕ) (g : Progress)
+    ensures done { (b : ConsoleStart) (shown : List ℕ) (c : Console) (k : List ℕ) (g : ConsoleTurn)
         → IsDone b store.old (Q.tells kinds.old) (Q.room kinds.old)
         (outside shown (L.noted log.old) (L.has_failed log.old)) c k g → is_some g.lists.key ≡ true
         → IsDone b store.new (Q.tells kinds.new) (Q.room kinds.new)
@@ -62,10 +62,10 @@ pub(crate) fn send_free_keys<Q: KindKeeper, L: EventLog>(
     kinds: &mut Q,
     log: &mut L,
 )
-    requires { (b : Start) × (shown : List ℕ) × (k : List ℕ) × (g : Progress)
+    requires { (b : ConsoleStart) × (shown : List ℕ) × (k : List ℕ) × (g : ConsoleTurn)
         × IsDone b store.old (Q.tells kinds.old) (Q.room kinds.old)
         (outside shown (L.noted log.old) (L.has_failed log.old)) state.now k g }
-    ensures done { (b : Start) (shown : List ℕ) (k : List ℕ) (g : Progress)
+    ensures done { (b : ConsoleStart) (shown : List ℕ) (k : List ℕ) (g : ConsoleTurn)
         → IsDone b store.old (Q.tells kinds.old) (Q.room kinds.old)
         (outside shown (L.noted log.old) (L.has_failed log.old)) state.now k g
         → IsDone b store.new (Q.tells kinds.new) (Q.room kinds.new)

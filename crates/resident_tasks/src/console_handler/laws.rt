@@ -3,7 +3,7 @@ ghost use Rattle.std.specs.Prelude.{◌≡◌, List, ℕ};
 ghost use Rattle.kernel_model.specs.KernelRecord.Kernel.{Console};
 ghost use Rattle.kernel_model.specs.KernelRecord.Lists.{Lists};
 ghost use Rattle.resident_tasks.specs.ConsoleHandler.ConsoleTurn.{LineFits, all_parts};
-ghost use Rattle.resident_tasks.specs.ConsoleHandler.Progress.{begun};
+ghost use Rattle.resident_tasks.specs.ConsoleHandler.TurnParts.{begun};
 
 use crate::console_handler::requests::{BAD_BUFFER, READ_LINE, WRITE};
 

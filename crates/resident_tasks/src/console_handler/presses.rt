@@ -3,7 +3,7 @@ ghost use Rattle.std.specs.Prelude.{◌+◌, ◌≤◌, List, length, ℕ};
 ghost use Rattle.kernel_calls.specs.CallAnswers.Outside.{outside};
 ghost use Rattle.resident_tasks.specs.ConsoleHandler.ConsoleTurn.{with_key};
 ghost use Rattle.resident_tasks.specs.ConsoleHandler.KeyPacket.{FindsKeys};
-ghost use Rattle.resident_tasks.specs.ConsoleHandler.Progress.{IsDone, Progress, Start};
+ghost use Rattle.resident_tasks.specs.ConsoleHandler.TurnParts.{ConsoleStart, ConsoleTurn, IsDone};
 
 use crate::console_handler::keys::take_keys;
 use crate::console_handler::lines::ConsoleState;
@@ -23,11 +23,11 @@ pub(crate) fn take_key<Q: KindKeeper, L: EventLog>(
     log: &mut L,
 )
     requires room { length bytes.old + 3 ≤ 8192 }
-    requires first { (b : Start) × (k : List ℕ) × (g : Progress)
+    requires first { (b : ConsoleStart) × (k : List ℕ) × (g : ConsoleTurn)
         × IsDone b store.old (Q.tells kinds.now) (Q.room kinds.now)
         (outside bytes.old (L.noted log.old) (L.has_failed log.old)) state.old k g
         × FindsKeys g.lists }
-    ensures { (b : Start) (k : List ℕ) (g : Progress)
+    ensures { (b : ConsoleStart) (k : List ℕ) (g : ConsoleTurn)
         → IsDone b store.old (Q.tells kinds.now) (Q.room kinds.now)
         (outside bytes.old (L.noted log.old) (L.has_failed log.old)) state.old k g
         → FindsKeys g.lists

@@ -1,7 +1,7 @@
 // The reads that wait for a line.
 ghost use Rattle.std.specs.Prelude.{◌≡◌, Ok, true};
 ghost use Rattle.kernel_model.specs.KernelRecord.Lists.{Lists};
-ghost use Rattle.kernel_calls.specs.CallAnswers.Made.{IsMade, minus_one};
+ghost use Rattle.kernel_calls.specs.CallAnswers.CallChange.{IsMade, minus_one};
 ghost use Rattle.resident_tasks.specs.ConsoleHandler.Reads.{IsReadTaken, put_off, read_taken};
 ghost use Rattle.resident_tasks.specs.ResidentRequests.Answers.{OwnsRequest};
 ghost use Rattle.resident_tasks.specs.ResidentRequests.Requests.{HasRequest};

@@ -3,7 +3,7 @@ ghost use Rattle.std.specs.Prelude.{◌≡◌, ◌+◌, ◌++◌, ◌≤◌, Lis
 ghost use Rattle.kernel_calls.specs.CallAnswers.Outside.{outside};
 ghost use Rattle.kernel_model.specs.KernelRecord.Kernel.{Console};
 ghost use Rattle.resident_tasks.specs.ConsoleHandler.ConsoleTurn.{answer_of, bytes_of, with_first};
-ghost use Rattle.resident_tasks.specs.ConsoleHandler.Progress.{IsDone, Progress, Start};
+ghost use Rattle.resident_tasks.specs.ConsoleHandler.TurnParts.{ConsoleStart, ConsoleTurn, IsDone};
 ghost use Rattle.resident_tasks.specs.ResidentRequests.Requests.{TakesRequest};
 
 use crate::console_handler::reads::put_off;
@@ -32,10 +32,10 @@ pub(crate) fn take_first<Q: KindKeeper, L: EventLog>(
     log: &mut L,
 )
     requires room { length bytes.old + 4096 ≤ 8192 }
-    requires first { (b : Start) × (c : Console) × (k : List ℕ) × (g : Progress)
+    requires first { (b : ConsoleStart) × (c : Console) × (k : List ℕ) × (g : ConsoleTurn)
         × IsDone b store.old (Q.tells kinds.old) (Q.room kinds.old)
         (outside bytes.old (L.noted log.old) (L.has_failed log.old)) c k g × TakesRequest g.lists }
-    ensures done { (b : Start) (c : Console) (k : List ℕ) (g : Progress)
+    ensures done { (b : ConsoleStart) (c : Console) (k : List ℕ) (g : ConsoleTurn)
         → IsDone b store.old (Q.tells kinds.old) (Q.room kinds.old)
         (outside bytes.old (L.noted log.old) (L.has_failed log.old)) c k g → TakesRequest g.lists
         → IsDone b store.new (Q.tells kinds.new) (Q.room kinds.new)

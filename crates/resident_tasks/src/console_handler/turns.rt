@@ -3,7 +3,7 @@ ghost use Rattle.std.specs.Prelude.{◌≡◌, [], List, ℕ};
 ghost use Rattle.kernel_calls.specs.CallAnswers.Outside.{outside};
 ghost use Rattle.kernel_model.specs.KernelRecord.Lists.{Lists};
 ghost use Rattle.resident_tasks.specs.ConsoleHandler.ConsoleTurn.{RunsConsole, all_parts, console_turn, treated};
-ghost use Rattle.resident_tasks.specs.ConsoleHandler.Progress.{IsDone, Progress, Start, begun};
+ghost use Rattle.resident_tasks.specs.ConsoleHandler.TurnParts.{ConsoleStart, ConsoleTurn, IsDone, begun};
 ghost use Rattle.resident_tasks.specs.ResidentRequests.Requests.{work};
 ghost use Rattle.resident_tasks.specs.ResidentRequests.Turns.{IsResidentTurn};
 ghost use Rattle.kernel_model.specs.KernelRecord.ChangedStore.{HasKeeper};
@@ -68,10 +68,10 @@ fn treat_first<Q: KindKeeper, L: EventLog>(
     log: &mut L,
 )
     requires empty { bytes.old ≡ [] }
-    requires console { (b : Start) × (k : List ℕ) × (g : Progress)
+    requires console { (b : ConsoleStart) × (k : List ℕ) × (g : ConsoleTurn)
         × IsDone b store.old (Q.tells kinds.old) (Q.room kinds.old)
         (outside bytes.old (L.noted log.old) (L.has_failed log.old)) state.old k g }
-    ensures treated { (b : Start) (k : List ℕ) (g : Progress)
+    ensures treated { (b : ConsoleStart) (k : List ℕ) (g : ConsoleTurn)
         → IsDone b store.old (Q.tells kinds.old) (Q.room kinds.old)
         (outside bytes.old (L.noted log.old) (L.has_failed log.old)) state.old k g
         → IsDone b store.new (Q.tells kinds.new) (Q.room kinds.new)

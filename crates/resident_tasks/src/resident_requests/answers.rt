@@ -3,7 +3,7 @@ ghost use Rattle.std.specs.Prelude.{◌≡◌, Ok};
 ghost use Rattle.word_store.specs.Arithmetic.{word_of};
 ghost use Rattle.kernel_model.specs.KernelRecord.HoldsLists.{HoldsLists};
 ghost use Rattle.kernel_model.specs.KernelRecord.Lists.{Lists};
-ghost use Rattle.kernel_calls.specs.CallAnswers.Made.{IsMade, minus_one};
+ghost use Rattle.kernel_calls.specs.CallAnswers.CallChange.{IsMade, minus_one};
 ghost use Rattle.resident_tasks.specs.ResidentRequests.Answers.{IsFinished, OwnsRequest, answered, res1_of, res2_of, returned};
 ghost use Rattle.resident_tasks.specs.ResidentRequests.Requests.{HasRequest, RunsResident};
 ghost use Rattle.kernel_model.specs.KernelRecord.LoggedEvents.{LogsAll};

@@ -8,7 +8,7 @@ use Rattle.kernel_model.specs.KernelRecord.ChangedStore.{HasKeeper}
 use Rattle.kernel_model.specs.KernelRecord.Lists.{Lists, has_task}
 use Rattle.kernel_model.specs.KernelRecord.Task.{Task, state_words, task_id}
 use Rattle.kernel_calls.specs.CallAnswers.Guests.{GuestAt, IsGuestOf}
-use Rattle.kernel_calls.specs.CallAnswers.Made.{IsMade, plain_answer}
+use Rattle.kernel_calls.specs.CallAnswers.CallChange.{IsMade, plain_answer}
 use Rattle.kernel_calls.proofs.CallAnswers.FoundTask.{find-numbered}
 use Rattle.kernel_calls.proofs.CallAnswers.GuestTask.{guest-words}
 use Rattle.kernel_calls.specs.ModuleCalls.UnloadModule.{unload_module}

@@ -17,7 +17,7 @@ use Rattle.kernel_model.specs.KernelRecord.Task.{Task, is_guest_id}
 use Rattle.kernel_model.specs.KernelRecord.ValidTasks.{dead}
 use Rattle.kernel_model.specs.KernelRecord.Versions.{highest_id_of}
 use Rattle.kernel_calls.specs.CallAnswers.Guests.{guest_tests}
-use Rattle.kernel_calls.specs.CallAnswers.Made.{by_refusal, done}
+use Rattle.kernel_calls.specs.CallAnswers.CallChange.{by_refusal, done}
 use Rattle.kernel_calls.specs.CallAnswers.Refusals.{first_refusal}
 use Rattle.kernel_calls.proofs.CallAnswers.Refusals.{high-guest}
 use Rattle.kernel_calls.specs.ModuleCalls.LoadModule.{load_tests, loaded_at, with_loaded}

@@ -18,7 +18,7 @@ use Rattle.kernel_model.specs.KernelRecord.ValidLists.{AreValid}
 use Rattle.kernel_model.proofs.KernelRecord.AllThings.{all-here}
 use Rattle.kernel_model.proofs.KernelRecord.RootCounts.{highest-high}
 use Rattle.kernel_model.proofs.KernelRecord.TaskPlaces.{TaskPlace, task-places}
-use Rattle.kernel_calls.specs.CallAnswers.Made.{IsMade, minus_one}
+use Rattle.kernel_calls.specs.CallAnswers.CallChange.{IsMade, minus_one}
 use Rattle.kernel_calls.proofs.CallAnswers.RunningTask.{there-at}
 use Rattle.kernel_calls.specs.PacketCalls.SendOwn.{CanSendOwn, send_own}
 use Rattle.kernel_calls.proofs.TaskCalls.PlainRows.{plain-set}

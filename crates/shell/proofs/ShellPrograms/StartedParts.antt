@@ -7,7 +7,7 @@ use Rattle.module_text.specs.declared.modules.Module.{Module}
 use Rattle.ram_disc.specs.Disc.{Disc}
 use Rattle.kernel_model.specs.KernelRecord.ChangedStore.{HasKeeper}
 use Rattle.kernel_model.specs.KernelRecord.Lists.{Lists}
-use Rattle.kernel_calls.specs.CallAnswers.Made.{IsMade, Made, refused}
+use Rattle.kernel_calls.specs.CallAnswers.CallChange.{CallChange, IsMade, refused}
 use Rattle.kernel_calls.specs.ModuleCalls.LoadModule.{load_module}
 use Rattle.kernel_calls.specs.ModuleCalls.UnloadModule.{unload_module}
 use Rattle.kernel_calls.specs.TaskCalls.CreateTask.{create_task}
@@ -65,7 +65,7 @@ module _ (pri : Priority) (m : ℕ) (s t : List ℕ) (l : Lists) (tells : List �
 -- ---- both
 
 module _ (d : Disc) (name : List ℕ) (rest : Result (Unit {0}) ℕ) (pri : Priority) (s t : List ℕ) (l : Lists) (tells : List ℕ → Type 0) where
-  abbrev made : Made
+  abbrev made : CallChange
   made = load_program d name rest l
 
   -- nothing was loaded

@@ -4,7 +4,7 @@ use Rattle.kernel_model.specs.KernelRecord.ChangedStore.{HasKeeper, IsChanged}
 use Rattle.kernel_model.specs.KernelRecord.Lists.{Lists}
 use Rattle.kernel_model.specs.KernelRecord.ValidQueues.{HasGuest}
 use Rattle.kernel_model.proofs.KernelRecord.ChangedLists.{knows-same}
-use Rattle.kernel_calls.specs.CallAnswers.Made.{IsMade, Made}
+use Rattle.kernel_calls.specs.CallAnswers.CallChange.{CallChange, IsMade}
 use Rattle.kernel_boot.specs.BegunTask.{with_begun}
 use Rattle.kernel_model.specs.KernelRecord.StoreWithLists.{StoreWithLists, store_with_lists}
 use Rattle.kernel_boot.proofs.BegunTask.{begun-same}
@@ -13,11 +13,11 @@ use Rattle.shell.specs.ShellPrograms.StoresWithLists.{RepresentsStoreWithLists, 
 use Rattle.shell.specs.ShellPrograms.StartedProgram.{begun}
 
 -- the store that a call leaves, with its lists
-pub made-represents : (s t : List ℕ) (tells : List ℕ → Type 0) (room : ℕ) (r : Result ℕ ℕ) (m : Made) → IsMade s t tells r m → length s ≤ room → RepresentsStoreWithLists t tells room (left_by s m)
+pub made-represents : (s t : List ℕ) (tells : List ℕ → Type 0) (room : ℕ) (r : Result ℕ ℕ) (m : CallChange) → IsMade s t tells r m → length s ≤ room → RepresentsStoreWithLists t tells room (left_by s m)
 made-represents s t tells room r m made enough = record { words = left-is s t m.lists m.plain made.leaves.lists; keeper = keeper-made s t tells r m made room enough }
 
 -- also after an earlier call, which has left this one
-pub made-after : (k : StoreWithLists) (s t : List ℕ) (tells : List ℕ → Type 0) (room : ℕ) (r : Result ℕ ℕ) (m : Made) → s ≡ k.words → IsMade s t tells r m → length s ≤ room → RepresentsStoreWithLists t tells room (left_by k.words m)
+pub made-after : (k : StoreWithLists) (s t : List ℕ) (tells : List ℕ → Type 0) (room : ℕ) (r : Result ℕ ℕ) (m : CallChange) → s ≡ k.words → IsMade s t tells r m → length s ≤ room → RepresentsStoreWithLists t tells room (left_by k.words m)
 made-after k s t tells room r m same made enough = subst (λ w. RepresentsStoreWithLists t tells room (left_by w m)) same (made-represents s t tells room r m made enough)
 
 -- a store as it is

@@ -5,7 +5,7 @@ use Rattle.module_text.specs.ModuleOfText.{module_of}
 use Rattle.ram_disc.specs.Disc.{Disc, file_named}
 use Rattle.kernel_model.specs.KernelRecord.Lists.{Lists}
 use Rattle.kernel_model.specs.KernelRecord.Versions.{highest_id_of}
-use Rattle.kernel_calls.specs.CallAnswers.Made.{Made, refused}
+use Rattle.kernel_calls.specs.CallAnswers.CallChange.{CallChange, refused}
 use Rattle.kernel_calls.specs.TaskCalls.CreateTask.{create_task, free_id}
 use Rattle.kernel_boot.specs.BegunTask.{with_begun}
 use Rattle.kernel_model.specs.KernelRecord.StoreWithLists.{StoreWithLists, left_with}
@@ -45,13 +45,13 @@ started answer k = record { answer = answer; left = k }
 -- ---- its module
 
 -- there is such a file (code 41), nothing else of the line is refused, and the module is loaded (60 and more, 1)
-abbrev pub load_found : Option (List ℕ) → Result (Unit {0}) ℕ → Lists → Made
+abbrev pub load_found : Option (List ℕ) → Result (Unit {0}) ℕ → Lists → CallChange
 load_found None rest l = refused l NO_FILE
 load_found (Some bytes) (Err code) l = refused l code
 load_found (Some bytes) (Ok u) l = load_text l (module_of bytes)
 
 -- the module of the program in the file of this name
-abbrev pub load_program : Disc → List ℕ → Result (Unit {0}) ℕ → Lists → Made
+abbrev pub load_program : Disc → List ℕ → Result (Unit {0}) ℕ → Lists → CallChange
 load_program d name rest l = load_found (option_map (λ f. f.bytes) (file_named d name)) rest l
 
 -- ---- its task
@@ -62,7 +62,7 @@ after_creation (Ok id) m k = started (Ok id) k
 after_creation (Err code) m k = started (Err code) (unloaded m k)
 
 -- the shell creates a task of the module (9, 8, 10, 18, 1)
-abbrev pub creation : Priority → ℕ → StoreWithLists → Made
+abbrev pub creation : Priority → ℕ → StoreWithLists → CallChange
 creation priority m k = create_task k.words k.lists 0 (m ∷ []) program_stack (priority_of priority k.lists) SHELL
 
 -- A task of a module, which is dead until a packet comes; where none can be created the module goes again.

@@ -2,7 +2,7 @@
 ghost use Rattle.std.specs.Prelude.{◌≡◌};
 ghost use Rattle.kernel_model.specs.KernelRecord.HoldsLists.{HoldsLists};
 ghost use Rattle.kernel_model.specs.KernelRecord.Lists.{Lists};
-ghost use Rattle.kernel_calls.specs.CallAnswers.Made.{IsMade};
+ghost use Rattle.kernel_calls.specs.CallAnswers.CallChange.{IsMade};
 ghost use Rattle.kernel_model.specs.KernelRecord.StoreWithLists.{store_with_lists};
 ghost use Rattle.shell.specs.ShellPrograms.StartedProgram.{IsStarted, create_program, load_program, next_number, priority_of, start_program};
 ghost use Rattle.kernel_model.specs.KernelRecord.ChangedStore.{HasKeeper};

@@ -10,7 +10,7 @@ use Rattle.kernel_model.specs.KernelRecord.Lists.{Lists}
 use Rattle.kernel_model.specs.KernelRecord.ValidLists.{AreValid}
 use Rattle.kernel_model.proofs.KernelRecord.GivenBlocks.{given-valid}
 use Rattle.kernel_model.proofs.KernelRecord.TakenBlocks.{take-valid}
-use Rattle.kernel_calls.specs.CallAnswers.Made.{done, unless_refused}
+use Rattle.kernel_calls.specs.CallAnswers.CallChange.{done, unless_refused}
 use Rattle.kernel_calls.specs.CallAnswers.Refusals.{first_refusal}
 use Rattle.kernel_calls.specs.BlockCalls.FreeStore.{data_taken, with_taken}
 use Rattle.kernel_calls.specs.BlockCalls.Freevec.{freevec, freevec_tests, has_packet_in, holds_packet, is_user, with_given}

@@ -19,7 +19,7 @@ use Rattle.kernel_model.specs.KernelRecord.Task.{Task, is_guest_id}
 use Rattle.kernel_model.specs.KernelRecord.ValidQueues.Place.{Keyboard, Work}
 use Rattle.kernel_model.proofs.KernelRecord.EachMember.{all-each}
 use Rattle.kernel_model.specs.KernelDispatch.Dispatch.{dispatched, packets_left, resumed, suspended, takes_packet, with_nobody, with_resumed, with_suspended}
-use Rattle.kernel_calls.specs.CallAnswers.Made.{Made, by_refusal}
+use Rattle.kernel_calls.specs.CallAnswers.CallChange.{CallChange, by_refusal}
 use Rattle.kernel_calls.specs.CallAnswers.Refusals.{first_refusal}
 use Rattle.kernel_calls.specs.TaskCalls.CreateTask.{create_task, creation_tests, new_task, number_of as given_number, with_created}
 use Rattle.kernel_calls.specs.PacketCalls.Dqpkt.{pending_number}
@@ -158,7 +158,7 @@ first-follows due s = on s.resident
 
 -- ---- the lines
 
-refused-same : (o : Option ℕ) (l : Lists) (m : Made) → Same l m.lists → Same l (by_refusal o l m).lists
+refused-same : (o : Option ℕ) (l : Lists) (m : CallChange) → Same l m.lists → Same l (by_refusal o l m).lists
 refused-same None l m same = same
 refused-same (Some code) l m same = refl
 
@@ -183,7 +183,7 @@ created-same : (s : List ℕ) (l : Lists) (id : ℕ) (modules : List ℕ) (u pri
 created-same s l id modules u pri maker low away =
     let n : ℕ = unwrap_or (given_number l id) 0 in
     let t : Task = new_task l n modules u pri maker in
-    let made : Made = with_created s l t in
+    let made : CallChange = with_created s l t in
     refused-same (first_refusal (creation_tests s l id modules u pri)) l made
     (ledger-same l made.lists (λ i. work-new i _ t l.tasks (ap (λ z. has_task z l.tasks) (number-is l id n low refl) ∙ away) refl) refl refl refl refl)
 
@@ -196,7 +196,7 @@ begin-same (Err code) k j is = cc
 create-same : (id pri stack : ℕ) → 5 ≤ id → (l : Lists) (r : Result (List ℕ × StoreWithLists) ℕ) (j : StoreWithLists) → create_it id pri stack r ≡ Ok j
     → ((x : List ℕ × StoreWithLists) → r ≡ Ok x → Same l x.1.lists × (has_task id x.1.lists.tasks ≡ false)) → Same l j.lists
 create-same id pri stack low l (Ok x) j is h =
-    let made : Made = create_task x.1.words x.1.lists id x.0 stack pri 0 in
+    let made : CallChange = create_task x.1.words x.1.lists id x.0 stack pri 0 in
     let before = h x refl in
     begin-same made.answer (left_with x.1.words made.lists made.plain) j is ∙ created-same x.1.words x.1.lists id x.0 stack pri 0 low before.1 ∙ before.0
 create-same id pri stack low l (Err code) j is h = cc

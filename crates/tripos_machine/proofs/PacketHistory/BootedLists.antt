@@ -12,7 +12,7 @@ use Rattle.kernel_model.specs.KernelRecord.Pipes.{no_pipes}
 use Rattle.kernel_model.specs.KernelRecord.StoreWithLists.{StoreWithLists, left_with, store_with_lists}
 use Rattle.kernel_model.specs.KernelRecord.ValidKernel.{IsValid}
 use Rattle.kernel_model.specs.KernelRecord.ValidLists.{AreValid}
-use Rattle.kernel_calls.specs.CallAnswers.Made.{Made}
+use Rattle.kernel_calls.specs.CallAnswers.CallChange.{CallChange}
 use Rattle.kernel_calls.specs.TaskCalls.CreateTask.{MayCreate, create_task, creation_tests, new_task, number_of, with_created}
 use Rattle.session_text.specs.Canonical.{IsLawfulMachine}
 use Rattle.session_text.specs.declared.sessions.LineForm.{LineForm}
@@ -89,7 +89,7 @@ module _ (id pri stack : ℕ) (low : 5 ≤ id) where
       → Holds j
   created-holds modules k j h may is = on made.answer refl is
     where
-      made : Made
+      made : CallChange
       made = create_task k.words k.lists id modules stack pri 0
 
       i : StoreWithLists

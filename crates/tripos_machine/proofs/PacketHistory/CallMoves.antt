@@ -15,7 +15,7 @@ use Rattle.kernel_model.specs.KernelRecord.ValidLists.{AreValid}
 use Rattle.kernel_model.specs.KernelRecord.ValidQueues.{Place}
 use Rattle.kernel_model.specs.KernelRecord.ValidQueues.Place.{Clock, Keyboard, Output, Pending, Work}
 use Rattle.kernel_model.proofs.KernelRecord.QueuePlaces.{place-there}
-use Rattle.kernel_calls.specs.CallAnswers.Made.{Made, by_refusal, unless_refused}
+use Rattle.kernel_calls.specs.CallAnswers.CallChange.{CallChange, by_refusal, unless_refused}
 use Rattle.kernel_calls.specs.CallAnswers.Refusals.{first_refusal}
 use Rattle.kernel_calls.specs.PacketCalls.Destinations.{is_destination, place_of}
 use Rattle.kernel_calls.specs.PacketCalls.Dqpkt.{Search, dequeued, dqpkt, dqpkt_tests, found_in, pending_number, searches}
@@ -89,7 +89,7 @@ sent-due due s l p from Output is = tt
 sent-due due s l p from Pending is = tt
 
 -- refused it changes nothing
-pub refused-moves : (due : KernelEvent → ℕ) (l : Lists) (tests : List (Bool × ℕ)) (m : Made) → (AllByRecursion (λ test. test.0 ≡ true) tests → Moves due l m.events m.lists)
+pub refused-moves : (due : KernelEvent → ℕ) (l : Lists) (tests : List (Bool × ℕ)) (m : CallChange) → (AllByRecursion (λ test. test.0 ≡ true) tests → Moves due l m.events m.lists)
     → Moves due l (unless_refused tests l m).events (unless_refused tests l m).lists
 refused-moves due l tests m moves = on (first_refusal tests) refl
   where

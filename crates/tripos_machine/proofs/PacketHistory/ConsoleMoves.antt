@@ -21,7 +21,7 @@ use Rattle.resident_tasks.specs.ResidentRequests.Answers.{finished, returned}
 use Rattle.resident_tasks.specs.ResidentRequests.Requests.{RunsResident, work}
 use Rattle.resident_tasks.specs.ConsoleHandler.ConsoleTurn.{console_turn, treated, with_keys_sent}
 use Rattle.resident_tasks.specs.ConsoleHandler.Deliveries.{delivery}
-use Rattle.resident_tasks.specs.ConsoleHandler.Progress.{Progress, begun}
+use Rattle.resident_tasks.specs.ConsoleHandler.TurnParts.{ConsoleTurn, begun}
 use Rattle.resident_tasks.specs.ConsoleHandler.Reads.{put_off}
 use Rattle.shell.proofs.RunningShell.{flags-goes}
 use Rattle.tripos_machine.proofs.PacketHistory.Ledgers.{ledger-same}
@@ -121,8 +121,8 @@ module _ (due : KernelEvent → ℕ) where
 
 pub console-moves : (due : KernelEvent → ℕ) (id : ℕ) (c : Console) (k s : List ℕ) (l : Lists) → HoldsLists s l → RunsResident l → l.running ≡ CONSOLE → TurnMoves due l (console_turn id c k s l)
 console-moves due id c k s l h r is =
-    let g : Progress = begun s l c k in
-    let d : Progress = with_keys_sent (delivery (treated id (work g.lists) g)) in
+    let g : ConsoleTurn = begun s l c k in
+    let d : ConsoleTurn = with_keys_sent (delivery (treated id (work g.lists) g)) in
     let x : HasLed due l d.words d.lists d.events = parts-on (HasLed due l) (console-leads due l) id g refl
     (record { console = record { holds = h; runs = r; is = is }; moved = none-moved due (signed CONSOLE) l l refl })
     in

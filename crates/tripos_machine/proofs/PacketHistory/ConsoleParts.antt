@@ -24,7 +24,7 @@ use Rattle.resident_tasks.specs.ConsoleHandler.ConsoleTurn.{answer_of, bytes_of,
 use Rattle.resident_tasks.specs.ConsoleHandler.Deliveries.{delivered, delivery, handed, line_service, with_read}
 use Rattle.resident_tasks.specs.ConsoleHandler.KeyPacket.{keys_taken, keys_taken_from}
 use Rattle.resident_tasks.specs.ConsoleHandler.Line.{Keyed, key}
-use Rattle.resident_tasks.specs.ConsoleHandler.Progress.{Progress, and_then, settled_words}
+use Rattle.resident_tasks.specs.ConsoleHandler.TurnParts.{ConsoleTurn, and_then, settled_words}
 use Rattle.resident_tasks.specs.ConsoleHandler.Reads.{put_off, read_taken_from, words_read_from}
 
 -- the lists once the first packet of a place was taken, and its request, in the words that taking leaves
@@ -66,15 +66,15 @@ pub record Allows (On : List ℕ → Lists → List KernelEvent → Type 0) : Ty
       On (settled_words s m.lists []) m.lists (es ++ m.events)
 
 module _ (On : List ℕ → Lists → List KernelEvent → Type 0) (h : Allows On) where
-  abbrev So : Progress → Type 0
+  abbrev So : ConsoleTurn → Type 0
   So g = On g.words g.lists g.events
 
   -- ---- the first packet
 
-  keys-on : (id : ℕ) (k : Keyed) (g : Progress) (p : QueuedPacket) (ps : List QueuedPacket) → g.events ≡ [] → work g.lists ≡ p ∷ ps → is_key_packet g.lists p ≡ true → So g → So (with_keyed id k (with_keys_taken g))
+  keys-on : (id : ℕ) (k : Keyed) (g : ConsoleTurn) (p : QueuedPacket) (ps : List QueuedPacket) → g.events ≡ [] → work g.lists ≡ p ∷ ps → is_key_packet g.lists p ≡ true → So g → So (with_keyed id k (with_keys_taken g))
   keys-on id k g p ps none is own x = h.at_flags t.words t.lists t.events id k.flags taken
     where
-      t : Progress
+      t : ConsoleTurn
       t = with_keys_taken g
 
       taken : So t
@@ -82,7 +82,7 @@ module _ (On : List ℕ → Lists → List KernelEvent → Type 0) (h : Allows O
           subst (λ qs. On (settled_words g.words (keys_taken_from qs g.lists).lists []) (keys_taken_from qs g.lists).lists (g.events ++ (keys_taken_from qs g.lists).events)) (sym is)
           (h.at_keys g.words g.lists g.events p ps none is own x)
 
-  first-on : (g : Progress) (p : QueuedPacket) (ps : List QueuedPacket) → g.events ≡ [] → work g.lists ≡ p ∷ ps → is_key_packet g.lists p ≡ false → So g → So (with_first g)
+  first-on : (g : ConsoleTurn) (p : QueuedPacket) (ps : List QueuedPacket) → g.events ≡ [] → work g.lists ≡ p ∷ ps → is_key_packet g.lists p ≡ false → So g → So (with_first g)
   first-on g p ps none is other x =
       subst (λ qs. So (with_taken (first_request (words_taken_from qs g.words g.lists) qs) (words_taken_from qs g.words g.lists) (taken_from qs g.lists).lists g)) (sym is) (on (eqb r.kind 1))
     where
@@ -106,7 +106,7 @@ module _ (On : List ℕ → Lists → List KernelEvent → Type 0) (h : Allows O
           subst (λ qs. On (settled_words g.words (returned m r answer).lists []) (returned m r answer).lists (g.events ++ ((taken_from qs g.lists).events ++ (returned m r answer).events))) (sym is)
           (h.at_answer g.words g.lists g.events p ps answer none is other x)
 
-  treated-on : (id : ℕ) (g : Progress) → g.events ≡ [] → So g → So (treated id (work g.lists) g)
+  treated-on : (id : ℕ) (g : ConsoleTurn) → g.events ≡ [] → So g → So (treated id (work g.lists) g)
   treated-on id g none x = on (work g.lists) refl
     where
       on : (ps : List QueuedPacket) → work g.lists ≡ ps → So (treated id ps g)
@@ -119,7 +119,7 @@ module _ (On : List ℕ → Lists → List KernelEvent → Type 0) (h : Allows O
 
   -- ---- the delivery
 
-  handed-on : (g : Progress) → So g → So (handed g)
+  handed-on : (g : ConsoleTurn) → So g → So (handed g)
   handed-on g x = on g.lists.pending refl
     where
       on : (ps : List QueuedPacket) → g.lists.pending ≡ ps → So (with_read (first_request (words_read_from ps g.words) ps) (words_read_from ps g.words) (read_taken_from ps g.lists).lists g)
@@ -133,7 +133,7 @@ module _ (On : List ℕ → Lists → List KernelEvent → Type 0) (h : Allows O
           subst (λ qs. On (settled_words g.words (returned m r w.answer).lists plain) (returned m r w.answer).lists (g.events ++ ((read_taken_from qs g.lists).events ++ (returned m r w.answer).events))) (sym is)
           (h.at_delivery g.words g.lists g.events p ps w.answer plain is x)
 
-  delivered-on : (ps : List QueuedPacket) (g : Progress) → So g → So (delivered ps g)
+  delivered-on : (ps : List QueuedPacket) (g : ConsoleTurn) → So g → So (delivered ps g)
   delivered-on [] g x = x
   delivered-on (p ∷ ps) g x = on g.console.finished (delivered-on ps (handed g) (handed-on g x))
     where
@@ -143,7 +143,7 @@ module _ (On : List ℕ → Lists → List KernelEvent → Type 0) (h : Allows O
 
   -- ---- the key packet
 
-  sent-on : (g : Progress) → So g → So (with_keys_sent g)
+  sent-on : (g : ConsoleTurn) → So g → So (with_keys_sent g)
   sent-on g x = on (is_some g.lists.key) refl (not g.console.finished)
     where
       on : (c : Bool) → is_some g.lists.key ≡ c → (d : Bool) → So (cond (c && d) (keys_sent g) g)
@@ -152,7 +152,7 @@ module _ (On : List ℕ → Lists → List KernelEvent → Type 0) (h : Allows O
       on false off d = x
 
   -- up to the end, at which the console waits or goes on
-  pub parts-on : (id : ℕ) (g : Progress) → g.events ≡ [] → So g → So (with_keys_sent (delivery (treated id (work g.lists) g)))
+  pub parts-on : (id : ℕ) (g : ConsoleTurn) → g.events ≡ [] → So g → So (with_keys_sent (delivery (treated id (work g.lists) g)))
   parts-on id g none x =
-      let t : Progress = treated id (work g.lists) g in
+      let t : ConsoleTurn = treated id (work g.lists) g in
       sent-on (delivery t) (delivered-on t.lists.pending t (treated-on id g none x))

@@ -17,7 +17,7 @@ use Rattle.kernel_model.specs.declared.kernel_record.numbers.TheConstants.{CONSO
 use Rattle.kernel_model.proofs.KernelRecord.QueuePlaces.{valid-at-place}
 use Rattle.kernel_model.proofs.KernelRecord.ResidentPackets.{key_unqueued-valid}
 use Rattle.kernel_calls.specs.CallAnswers.Guests.{guest_tests}
-use Rattle.kernel_calls.specs.CallAnswers.Made.{done}
+use Rattle.kernel_calls.specs.CallAnswers.CallChange.{done}
 use Rattle.kernel_calls.specs.CallAnswers.Refusals.{first_refusal}
 use Rattle.kernel_calls.specs.TaskCalls.SetFlags.{flagged, set_flags}
 use Rattle.kernel_calls.specs.PacketCalls.Destinations.{queue_for}
@@ -28,7 +28,7 @@ use Rattle.resident_tasks.specs.ResidentRequests.Answers.{returned}
 use Rattle.resident_tasks.specs.ResidentRequests.Requests.{RunsResident, work}
 use Rattle.resident_tasks.specs.ConsoleHandler.ConsoleTurn.{all_parts, treated, with_keys_sent}
 use Rattle.resident_tasks.specs.ConsoleHandler.Deliveries.{delivery}
-use Rattle.resident_tasks.specs.ConsoleHandler.Progress.{Progress, begun, settled_words}
+use Rattle.resident_tasks.specs.ConsoleHandler.TurnParts.{ConsoleTurn, begun, settled_words}
 use Rattle.resident_tasks.specs.ConsoleHandler.Reads.{put_off}
 use Rattle.resident_tasks.proofs.ConsoleHandler.SentKeys.{can-send}
 use Rattle.shell.proofs.RunningShell.{GoesOn, flags-goes}
@@ -120,7 +120,7 @@ console-allows =
 
 pub console-valid : (id : ℕ) (c : Console) (k s : List ℕ) (l : Lists) → HoldsLists s l → RunsResident l → l.running ≡ CONSOLE → AreValid (all_parts id (begun s l c k)).lists
 console-valid id c k s l h r is =
-    let g : Progress = begun s l c k in
-    let d : Progress = with_keys_sent (delivery (treated id (work g.lists) g)) in
+    let g : ConsoleTurn = begun s l c k in
+    let d : ConsoleTurn = with_keys_sent (delivery (treated id (work g.lists) g)) in
     let x : IsConsole d.words d.lists d.events = parts-on IsConsole console-allows id g refl (record { holds = h; runs = r; is = is }) in
     finished-valid d.words d.lists x.holds x.runs

@@ -26,7 +26,7 @@ use Rattle.kernel_model.specs.KernelRecord.Lists.{Lists}
 use Rattle.kernel_model.specs.KernelRecord.ValidLists.{AreValid}
 use Rattle.kernel_calls.specs.CallAnswers.Callers.{HasCaller}
 use Rattle.kernel_calls.specs.CallAnswers.Guests.{GuestAt}
-use Rattle.kernel_calls.specs.CallAnswers.Made.{done}
+use Rattle.kernel_calls.specs.CallAnswers.CallChange.{done}
 use Rattle.kernel_calls.specs.CallAnswers.Refusals.{answer_of, first_refusal}
 use Rattle.kernel_calls.proofs.CallAnswers.RunningTask.{caller-at}
 use Rattle.kernel_calls.specs.BlockCalls.Freevec.{has_packet_in}

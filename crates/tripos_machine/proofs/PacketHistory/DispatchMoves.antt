@@ -12,7 +12,7 @@ use Rattle.kernel_model.specs.KernelRecord.Task.{Task, task_id}
 use Rattle.kernel_model.specs.KernelRecord.ValidLists.{AreValid}
 use Rattle.kernel_model.specs.KernelRecord.ValidQueues.Place.{Work}
 use Rattle.kernel_model.proofs.KernelRecord.ChainSplits.{IsBetween, change-between, found-between, has_task-between, work_of-between}
-use Rattle.kernel_model.specs.KernelDispatch.Dispatch.{Dispatched, dispatched, first_ready_task, packets_left, packets_taken, resumed, suspended, taken_event, takes_packet, with_nobody, with_resumed, with_suspended}
+use Rattle.kernel_model.specs.KernelDispatch.Dispatch.{DispatchChange, dispatched, first_ready_task, packets_left, packets_taken, resumed, suspended, taken_event, takes_packet, with_nobody, with_resumed, with_suspended}
 use Rattle.kernel_machine.proofs.KernelSteps.DispatchKept.{three-ways}
 use Rattle.kernel_machine.proofs.KernelSteps.DispatchedTasks.{ids-changed}
 use Rattle.tripos_machine.specs.PacketHistory.Queues.{Moves, ledger_of}
@@ -35,7 +35,7 @@ module _ (due : KernelEvent → ℕ) (words : List ℕ) (l : Lists) (r : Regs) (
   apart : IsApart (map task_id m.tasks)
   apart = subst IsApart (sym (ids-changed l.running (suspended r) (λ t. refl) l.tasks)) v.tasks.distinct
 
-  abbrev Moved : Dispatched → Type 0
+  abbrev Moved : DispatchChange → Type 0
   Moved d = Moves due l d.events d.lists
 
   nobody : Moved (with_nobody m)

@@ -8,7 +8,7 @@ use Rattle.kernel_model.specs.KernelRecord.Lists.{Lists}
 use Rattle.kernel_model.specs.KernelRecord.ValidLists.{AreValid}
 use Rattle.kernel_model.specs.KernelRecord.ValidQueues.Place.{Work}
 use Rattle.kernel_calls.specs.CallAnswers.Callers.{HasCaller}
-use Rattle.kernel_calls.specs.CallAnswers.Made.{Made}
+use Rattle.kernel_calls.specs.CallAnswers.CallChange.{CallChange}
 use Rattle.kernel_calls.proofs.CallAnswers.RunningTask.{caller-at}
 use Rattle.kernel_calls.specs.PacketCalls.TaskWait.{taskwait}
 use Rattle.kernel_calls.specs.CallNumbers.{call_of}
@@ -24,7 +24,7 @@ use Rattle.tripos_machine.proofs.PacketHistory.PacketCalls.{dqpkt-valid, qpkt-va
 use Rattle.tripos_machine.proofs.PacketHistory.TaskCalls.{change_pri-valid, create_task-valid, delete_task-valid, hold-valid, release-valid, set_flags-valid, test_flags-valid}
 
 module _ (s : List ℕ) (l : Lists) (h : HoldsLists s l) (c : HasCaller l) where
-  wait-valid : (r : Regs) (ps : List QueuedPacket) (m : Made) → AreValid m.lists → AreValid (of_wait r ps m).lists
+  wait-valid : (r : Regs) (ps : List QueuedPacket) (m : CallChange) → AreValid m.lists → AreValid (of_wait r ps m).lists
   wait-valid r [] m v = v
   wait-valid r (p ∷ ps) m v = v
 

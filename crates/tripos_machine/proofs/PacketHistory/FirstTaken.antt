@@ -4,7 +4,7 @@ use Rattle.std.specs.List.{AllByRecursion}
 use Rattle.kernel_lists.specs.declared.packet_queue.events.KernelEvent.{KernelEvent}
 use Rattle.kernel_lists.specs.declared.packet_queue.events.KernelEvent.TheVariants.{Accepted, Taken, Dequeued, Runs}
 use Rattle.kernel_model.specs.KernelRecord.Lists.{Lists}
-use Rattle.kernel_calls.specs.CallAnswers.Made.{Made, by_refusal, unless_refused}
+use Rattle.kernel_calls.specs.CallAnswers.CallChange.{CallChange, by_refusal, unless_refused}
 use Rattle.kernel_calls.specs.CallAnswers.Refusals.{first_refusal}
 use Rattle.kernel_calls.specs.PacketCalls.Dqpkt.{pending_number}
 
@@ -36,7 +36,7 @@ first-join [] fs x y = reads-first fs y
 first-join (e ∷ es) fs x y = reads-join es fs x y
 
 -- a call that is refused has no events
-pub first-refused : (tests : List (Bool × ℕ)) (l : Lists) (m : Made) → TakesFirst m.events → TakesFirst (unless_refused tests l m).events
+pub first-refused : (tests : List (Bool × ℕ)) (l : Lists) (m : CallChange) → TakesFirst m.events → TakesFirst (unless_refused tests l m).events
 first-refused tests l m x = on (first_refusal tests)
   where
     on : (o : Option ℕ) → TakesFirst (by_refusal o l m).events

@@ -25,7 +25,7 @@ use Rattle.kernel_model.specs.KernelRecord.ValidQueues.Place.{Work}
 use Rattle.kernel_model.specs.KernelRecord.Versions.{highest_id_of}
 use Rattle.word_store.proofs.Elements.{find-passes}
 use Rattle.kernel_calls.specs.CallAnswers.Guests.{guest_tests}
-use Rattle.kernel_calls.specs.CallAnswers.Made.{Made, done, unless_refused}
+use Rattle.kernel_calls.specs.CallAnswers.CallChange.{CallChange, done, unless_refused}
 use Rattle.kernel_calls.specs.CallAnswers.Refusals.{first_refusal}
 use Rattle.kernel_calls.proofs.CallAnswers.FoundTask.{any-one, find-numbered}
 use Rattle.kernel_calls.proofs.CallAnswers.RunningTask.{there-at}
@@ -50,8 +50,8 @@ use Rattle.kernel_calls.specs.CoroutineCalls.CoWait.{ended, wait_tests, with_end
 use Rattle.kernel_calls.specs.CoroutineCalls.CreateCo.{create_tests, created, createco, with_created as with_new_coroutine}
 use Rattle.kernel_calls.specs.CoroutineCalls.DeleteCo.{delete_tests, deleteco, with_deleted, with_deleted_at}
 use Rattle.kernel_calls.specs.CoroutineCalls.ResumeCo.{resume_tests, resumed_itself}
-use Rattle.kernel_calls.specs.CoroutineCalls.Switched as switches
-use Rattle.kernel_calls.specs.CoroutineCalls.Switched.{Switched, switched}
+use Rattle.kernel_calls.specs.CoroutineCalls.SwitchChange as switches
+use Rattle.kernel_calls.specs.CoroutineCalls.SwitchChange.{SwitchChange, switched}
 use Rattle.kernel_calls.specs.CallNumbers.{call_of}
 use Rattle.kernel_calls.specs.Calls.{kernel_call, made, made_if_read, of_wait, past_call}
 use Rattle.kernel_calls.specs.declared.call_numbers.CallOutcome.{CallOutcome}
@@ -86,10 +86,10 @@ module _ (due : KernelEvent → ℕ) (l : Lists) where
   goes-none m same = (move-none due l m same, turn-none (signed l.running), tt)
 
   -- a call without events
-  abbrev IsQuiet : Made → Type 0
+  abbrev IsQuiet : CallChange → Type 0
   IsQuiet m = Goes m.events m.lists
 
-  quiet : (tests : List (Bool × ℕ)) (m : Made) → m.events ≡ [] → (AllByRecursion (λ test. test.0 ≡ true) tests → Quiet l m.lists) → IsQuiet (unless_refused tests l m)
+  quiet : (tests : List (Bool × ℕ)) (m : CallChange) → m.events ≡ [] → (AllByRecursion (λ test. test.0 ≡ true) tests → Quiet l m.lists) → IsQuiet (unless_refused tests l m)
   quiet tests m none same = (
     refused-moves due l tests m (λ ok. subst (λ es. Moves due l es m.lists) (sym none) (move-none due l m.lists (same ok))),
     turn-refused (signed l.running) tests l m (λ ok. subst (AreOfTurn (signed l.running)) (sym none) (turn-none (signed l.running))),
@@ -143,7 +143,7 @@ module _ (due : KernelEvent → ℕ) (l : Lists) where
   pub create_task-quiet : (s : List ℕ) (modules : List ℕ) (u pri maker : ℕ) → IsQuiet (create_task s l 0 modules u pri maker)
   create_task-quiet s modules u pri maker =
       let t : Task = new_task l (unwrap_or (number_of l 0) 0) modules u pri maker in
-      let made : Made = with_created s l t in
+      let made : CallChange = with_created s l t in
       quiet (creation_tests s l 0 modules u pri) made refl
       (λ ok. ledger-same l made.lists (λ n. work-new n _ t l.tasks (free-new ok.1.1.1.0) refl) refl refl refl refl)
 
@@ -181,17 +181,17 @@ module _ (due : KernelEvent → ℕ) (l : Lists) where
 
   createco-quiet : (entry u : ℕ) → IsQuiet (createco l entry u)
   createco-quiet entry u =
-      let m : Made = created (data_taken (highest u) l) entry u l in
+      let m : CallChange = created (data_taken (highest u) l) entry u l in
       quiet (create_tests l u) m refl (λ ok. beside-quiet (with_task l.running (with_changed (with_new_coroutine (data_taken (highest u) l) entry u)) l) m.lists refl refl refl refl refl ∙ callers-quiet (with_new_coroutine (data_taken (highest u) l) entry u))
 
   deleteco-quiet : (c : ℕ) → IsQuiet (deleteco l c)
   deleteco-quiet c =
       quiet (delete_tests l c) (done (with_deleted_at c l)) refl (λ ok. beside-quiet (with_task l.running (with_changed (with_deleted c)) l) (with_deleted_at c l) refl refl refl refl refl ∙ callers-quiet (with_deleted c))
 
-  abbrev SwitchIsQuiet : Switched → Type 0
+  abbrev SwitchIsQuiet : SwitchChange → Type 0
   SwitchIsQuiet m = Goes [] m.lists
 
-  refused-switch : (o : Option ℕ) (r : Regs) (m : Switched) → SwitchIsQuiet m → SwitchIsQuiet (switches.by_refusal o l r m)
+  refused-switch : (o : Option ℕ) (r : Regs) (m : SwitchChange) → SwitchIsQuiet m → SwitchIsQuiet (switches.by_refusal o l r m)
   refused-switch None r m is = is
   refused-switch (Some code) r m is = goes-none l refl
 
@@ -212,7 +212,7 @@ module _ (due : KernelEvent → ℕ) (l : Lists) where
   dequeued-first p None = tt
   dequeued-first p (Some w) = tt
 
-  wait-moves : (r : Regs) (ps : List QueuedPacket) (m : Made) → IsQuiet m → Goes (of_wait r ps m).events (of_wait r ps m).lists
+  wait-moves : (r : Regs) (ps : List QueuedPacket) (m : CallChange) → IsQuiet m → Goes (of_wait r ps m).events (of_wait r ps m).lists
   wait-moves r [] m is = is
   wait-moves r (p ∷ ps) m is = is
 

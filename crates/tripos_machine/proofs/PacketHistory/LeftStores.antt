@@ -6,9 +6,9 @@ use Rattle.kernel_model.specs.KernelRecord.HoldsLists.{HoldsLists}
 use Rattle.kernel_model.specs.KernelRecord.Lists.{Lists}
 use Rattle.kernel_model.specs.KernelRecord.Owned.{owned}
 use Rattle.kernel_model.specs.KernelRecord.ValidLists.{AreValid}
-use Rattle.kernel_calls.specs.CallAnswers.Made.{Made, by_refusal, unless_refused}
+use Rattle.kernel_calls.specs.CallAnswers.CallChange.{CallChange, by_refusal, unless_refused}
 use Rattle.kernel_calls.specs.CallAnswers.Refusals.{first_refusal}
-use Rattle.resident_tasks.specs.ConsoleHandler.Progress.{settled_words}
+use Rattle.resident_tasks.specs.ConsoleHandler.TurnParts.{settled_words}
 use Rattle.resident_tasks.proofs.ConsoleHandler.DoneParts.{settled-words}
 use Rattle.shell.specs.ShellPrograms.StoresWithLists.{left_by}
 
@@ -36,12 +36,12 @@ module _ (s : List ℕ) (m : Lists) (plain : Pairs) (v : AreValid m) (size : len
       left-holds
 
 -- where a call is refused the size stays too
-pub made-size : (o : Option ℕ) (l : Lists) (m : Made) → m.lists.size ≡ l.size → (by_refusal o l m).lists.size ≡ l.size
+pub made-size : (o : Option ℕ) (l : Lists) (m : CallChange) → m.lists.size ≡ l.size → (by_refusal o l m).lists.size ≡ l.size
 made-size None l m same = same
 made-size (Some code) l m same = refl
 
 -- a call that leaves valid lists, refused or not, leaves a store that holds them
-pub call-holds : (s : List ℕ) (l : Lists) (tests : List (Bool × ℕ)) (m : Made) → HoldsLists s l → AreValid (unless_refused tests l m).lists → m.lists.size ≡ l.size
+pub call-holds : (s : List ℕ) (l : Lists) (tests : List (Bool × ℕ)) (m : CallChange) → HoldsLists s l → AreValid (unless_refused tests l m).lists → m.lists.size ≡ l.size
     → HoldsLists (left_by s (unless_refused tests l m)).words (unless_refused tests l m).lists
 call-holds s l tests m h v same =
     left-holds s (unless_refused tests l m).lists (unless_refused tests l m).plain v (h.size ∙ sym (made-size (first_refusal tests) l m same))

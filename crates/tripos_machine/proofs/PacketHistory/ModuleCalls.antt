@@ -12,7 +12,7 @@ use Rattle.kernel_model.proofs.KernelRecord.AllThings.{all-fail}
 use Rattle.kernel_model.proofs.KernelRecord.ModuleMoves.{gone_module-unowned, gone_module-valid}
 use Rattle.kernel_model.proofs.KernelRecord.UnownedBlocks.{unowned-user}
 use Rattle.kernel_calls.specs.CallAnswers.Guests.{GuestAt, guest_tests}
-use Rattle.kernel_calls.specs.CallAnswers.Made.{done}
+use Rattle.kernel_calls.specs.CallAnswers.CallChange.{done}
 use Rattle.kernel_calls.specs.CallAnswers.Modules.{has_module}
 use Rattle.kernel_calls.specs.CallAnswers.Refusals.{first_refusal}
 use Rattle.kernel_calls.specs.BlockCalls.Freevec.{has_packet_in, holds_packet, with_given}

@@ -7,7 +7,7 @@ use Rattle.kernel_model.specs.KernelRecord.Lists.{Lists}
 use Rattle.kernel_model.specs.KernelRecord.ValidLists.{AreValid}
 use Rattle.kernel_calls.specs.CallAnswers.Callers.{HasCaller}
 use Rattle.kernel_calls.specs.CallAnswers.Guests.{GuestAt}
-use Rattle.kernel_calls.specs.CallAnswers.Made.{by_refusal}
+use Rattle.kernel_calls.specs.CallAnswers.CallChange.{by_refusal}
 use Rattle.kernel_calls.specs.CallAnswers.Refusals.{first_refusal}
 use Rattle.kernel_calls.proofs.CallAnswers.RunningTask.{caller-at}
 use Rattle.kernel_calls.proofs.TaskCalls.TestsInTurn.{all-passed}

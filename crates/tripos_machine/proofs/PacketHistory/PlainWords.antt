@@ -7,7 +7,7 @@ use Rattle.kernel_model.specs.KernelRecord.Kernel.{Kernel}
 use Rattle.kernel_model.specs.KernelRecord.Lists.{Lists}
 use Rattle.kernel_model.specs.KernelRecord.Owned.{owned}
 use Rattle.kernel_model.specs.KernelRecord.ValidLists.{AreValid}
-use Rattle.kernel_calls.specs.PacketCalls.Returned.{Served}
+use Rattle.kernel_calls.specs.PacketCalls.Returned.{DeviceChange}
 use Rattle.kernel_model.proofs.KernelRecord.ImageWords.{image-of}
 use Rattle.kernel_devices.specs.Keys.{left_typed, met}
 use Rattle.kernel_devices.specs.Printed.{finished}
@@ -58,7 +58,7 @@ turn-left k h =
       nobody = λ e v. h;
     })
 
-served-left : (k : Kernel) (m : Served) → IsLeft (served k m).kernel
+served-left : (k : Kernel) (m : DeviceChange) → IsLeft (served k m).kernel
 unfolding settled
 served-left k m = stored-left _ _ k _ refl refl
 

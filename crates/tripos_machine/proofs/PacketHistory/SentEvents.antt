@@ -11,7 +11,7 @@ use Rattle.kernel_model.specs.KernelRecord.Lists.{Lists, has_task}
 use Rattle.kernel_model.specs.KernelRecord.ValidLists.{AreValid}
 use Rattle.kernel_model.specs.KernelRecord.ValidQueues.{Place}
 use Rattle.kernel_model.specs.KernelRecord.ValidQueues.Place.{Clock, Keyboard, Output, Pending, Work}
-use Rattle.kernel_calls.specs.CallAnswers.Made.{Made, by_refusal, unless_refused}
+use Rattle.kernel_calls.specs.CallAnswers.CallChange.{CallChange, by_refusal, unless_refused}
 use Rattle.kernel_calls.specs.CallAnswers.Refusals.{first_refusal}
 use Rattle.kernel_calls.specs.PacketCalls.Destinations.{is_destination, place_of}
 use Rattle.kernel_calls.specs.PacketCalls.Dqpkt.{Search, dequeued, dqpkt, dqpkt_tests, found_in, pending_number}
@@ -60,7 +60,7 @@ module _ (from : ℤ) where
   turn-put_off p s = record { sent = λ before. (tt, (refl, tt)); takes = refl }
 
   -- refused it has no events
-  pub turn-refused : (tests : List (Bool × ℕ)) (l : Lists) (m : Made) → (AllByRecursion (λ test. test.0 ≡ true) tests → AreOfTurn from m.events) → AreOfTurn from (unless_refused tests l m).events
+  pub turn-refused : (tests : List (Bool × ℕ)) (l : Lists) (m : CallChange) → (AllByRecursion (λ test. test.0 ≡ true) tests → AreOfTurn from m.events) → AreOfTurn from (unless_refused tests l m).events
   turn-refused tests l m h = on (first_refusal tests) refl
     where
       on : (o : Option ℕ) → first_refusal tests ≡ o → AreOfTurn from (by_refusal o l m).events

@@ -13,7 +13,7 @@ use Rattle.kernel_model.specs.KernelRecord.Running.{RunsAlive}
 use Rattle.kernel_model.specs.KernelRecord.StoreWithLists.{StoreWithLists}
 use Rattle.kernel_model.specs.declared.kernel_record.numbers.TheConstants.{SHELL}
 use Rattle.kernel_calls.specs.CallAnswers.Guests.{guest_tests}
-use Rattle.kernel_calls.specs.CallAnswers.Made.{Made, by_refusal}
+use Rattle.kernel_calls.specs.CallAnswers.CallChange.{CallChange, by_refusal}
 use Rattle.kernel_calls.specs.CallAnswers.Refusals.{first_refusal}
 use Rattle.kernel_calls.specs.BlockCalls.Freevec.{with_given}
 use Rattle.kernel_calls.specs.TaskCalls.CreateTask.{creation_tests, new_task, number_of, with_created}
@@ -35,7 +35,7 @@ use Rattle.tripos_machine.proofs.PacketHistory.StartedPrograms.{unloaded-holds}
 use Rattle.tripos_machine.proofs.PacketHistory.GuestMoves.{beside-quiet, create_task-quiet, delete_task-quiet, unload-quiet}
 
 -- without events none does
-quiet-same : (l : Lists) (m : Made) → m.events ≡ [] → Moves (λ e. 0) l m.events m.lists → ledger_of m.lists ≡ ledger_of l
+quiet-same : (l : Lists) (m : CallChange) → m.events ≡ [] → Moves (λ e. 0) l m.events m.lists → ledger_of m.lists ≡ ledger_of l
 quiet-same l m none moves = sym (subst (λ es. Moves (λ e. 0) l es m.lists) none moves)
 
 unload-same : (l : Lists) (m : ℕ) → ledger_of (unload_module l m).lists ≡ ledger_of l

@@ -15,7 +15,7 @@ use Rattle.kernel_model.specs.KernelRecord.ValidQueues.Place.{Work}
 use Rattle.kernel_model.specs.declared.kernel_record.numbers.TheConstants.{SHELL, SHELL_PACKET}
 use Rattle.kernel_model.specs.KernelRecord.Changes.{with_task}
 use Rattle.kernel_calls.specs.CallAnswers.Guests.{guest_tests}
-use Rattle.kernel_calls.specs.CallAnswers.Made.{Made}
+use Rattle.kernel_calls.specs.CallAnswers.CallChange.{CallChange}
 use Rattle.kernel_calls.specs.CallAnswers.Refusals.{first_refusal}
 use Rattle.kernel_calls.specs.TaskCalls.ChangePri.{change_pri, priority_tests, with_new_priority}
 use Rattle.kernel_calls.specs.TaskCalls.HoldTask.{held, hold, hold_tests}
@@ -67,7 +67,7 @@ module _ (due : KernelEvent → ℕ) (b : Lists) where
     l = k.lists
 
     -- it is returned, as the words that taking leaves have it
-    abbrev back : Made
+    abbrev back : CallChange
     back = returned (without_first ps k) (request_at (unqueued k.words (queue_for l (Work l.running)) p.address) p.address) (Err 31)
 
     low : l.running ≤ 63
@@ -80,7 +80,7 @@ module _ (due : KernelEvent → ℕ) (b : Lists) where
 
     back-led : Led ((es ++ first_event p k ∷ []) ++ (sent_back p ps k).events) (sent_back p ps k).lists
     back-led =
-        subst (λ s. let m : Made = returned (without_first ps k) (request_at s p.address) (Err 31) in Led ((es ++ first_event p k ∷ []) ++ m.events) m.lists) (first-words p ps k es is x.shell)
+        subst (λ s. let m : CallChange = returned (without_first ps k) (request_at s p.address) (Err 31) in Led ((es ++ first_event p k ∷ []) ++ m.events) m.lists) (first-words p ps k es is x.shell)
         (subst (λ fs. Led fs back.lists) (sym (append_assoc es (first_event p k ∷ []) back.events))
         (first-moved due (signed SHELL) b l back.lists es (first_event p k ∷ back.events) x.none x.led
         (returned-moves due (signed SHELL) k.words l x.shell.well.holds (Work l.running) p ps is (low-named l.running low) (signed l.running) (signed-low l.running low) (low-clock l.running low)
@@ -105,7 +105,7 @@ module _ (due : KernelEvent → ℕ) (b : Lists) where
       (tt, tt)
 
   -- a call about a task
-  called-led : (k : StoreWithLists) (es : List KernelEvent) (m : Made) → k.lists.running ≡ SHELL → m.events ≡ [] → Moves due k.lists m.events m.lists × AreOfTurn (signed k.lists.running) m.events × TakesFirst m.events
+  called-led : (k : StoreWithLists) (es : List KernelEvent) (m : CallChange) → k.lists.running ≡ SHELL → m.events ≡ [] → Moves due k.lists m.events m.lists × AreOfTurn (signed k.lists.running) m.events × TakesFirst m.events
       → Led es k.lists
       → Led (es ++ m.events) m.lists
   called-led k es m is none quiet led =

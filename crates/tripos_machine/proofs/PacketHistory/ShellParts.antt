@@ -18,7 +18,7 @@ use Rattle.kernel_model.specs.KernelRecord.ValidQueues.{HasGuest}
 use Rattle.kernel_model.specs.KernelRecord.ValidQueues.Place.{Work}
 use Rattle.kernel_model.specs.declared.kernel_record.numbers.TheConstants.{CONSOLE, SHELL, SHELL_PACKET}
 use Rattle.kernel_model.proofs.KernelRecord.RootCounts.{highest-high}
-use Rattle.kernel_calls.specs.CallAnswers.Made.{Made}
+use Rattle.kernel_calls.specs.CallAnswers.CallChange.{CallChange}
 use Rattle.kernel_calls.specs.TaskCalls.ChangePri.{change_pri}
 use Rattle.kernel_calls.specs.TaskCalls.HoldTask.{hold}
 use Rattle.kernel_calls.specs.TaskCalls.ReleaseTask.{release}
@@ -59,7 +59,7 @@ abbrev pub first_event : QueuedPacket → StoreWithLists → KernelEvent
 first_event p k = Taken (signed k.lists.running) p.address (signed p.sender)
 
 -- the packet comes back to its sender
-abbrev pub sent_back : QueuedPacket → List QueuedPacket → StoreWithLists → Made
+abbrev pub sent_back : QueuedPacket → List QueuedPacket → StoreWithLists → CallChange
 sent_back p ps k = returned (without_first ps k) (request_at (after_first p ps k).words p.address) (Err UNKNOWN_TYPE)
 
 -- Before it takes a packet the shell clears up. It has its own packet once it has taken it, and returns any other. It goes on having it

@@ -22,7 +22,7 @@ use Rattle.kernel_model.specs.declared.kernel_record.numbers.TheConstants.{CONSO
 use Rattle.kernel_model.proofs.KernelRecord.PacketMoves.{unqueued-unowned}
 use Rattle.kernel_model.proofs.KernelRecord.QueuePlaces.{valid-at-place}
 use Rattle.kernel_calls.specs.CallAnswers.Guests.{guest_tests}
-use Rattle.kernel_calls.specs.CallAnswers.Made.{Made, done}
+use Rattle.kernel_calls.specs.CallAnswers.CallChange.{CallChange, done}
 use Rattle.kernel_calls.specs.TaskCalls.ChangePri.{change_pri, moved, priority_tests, with_new_priority}
 use Rattle.kernel_calls.specs.TaskCalls.DeleteTask.{delete_task, deletion_tests, without_task}
 use Rattle.kernel_calls.specs.TaskCalls.HoldTask.{hold, hold_tests, held}
@@ -167,7 +167,7 @@ begun-so id k es fs guest x =
 
 -- ---- a call about a task
 
-called-so : (call : Lists → Made) → IsTaskCall call → (k : StoreWithLists) (es fs : List KernelEvent) → HoldsLists (left_by k.words (call k.lists)).words (call k.lists).lists → HasOwn k es → HasOwn (left_by k.words (call k.lists)) fs
+called-so : (call : Lists → CallChange) → IsTaskCall call → (k : StoreWithLists) (es fs : List KernelEvent) → HoldsLists (left_by k.words (call k.lists)).words (call k.lists).lists → HasOwn k es → HasOwn (left_by k.words (call k.lists)) fs
 called-so call is k es fs h x =
     let goes : GoesOn k.lists (call k.lists) = is.goes k.words _ k.lists x.shell.well.holds h x.shell.is x.shell.well.runs in
     let still = goes.running ∙ x.shell.is in

@@ -24,7 +24,7 @@ use Rattle.kernel_model.specs.KernelRecord.ValidQueues.{HasGuest}
 use Rattle.kernel_model.specs.declared.kernel_record.numbers.TheConstants.{SHELL}
 use Rattle.kernel_model.proofs.KernelRecord.ModuleMoves.{new_module-valid}
 use Rattle.kernel_calls.specs.CallAnswers.Guests.{GuestAt}
-use Rattle.kernel_calls.specs.CallAnswers.Made.{Made, done}
+use Rattle.kernel_calls.specs.CallAnswers.CallChange.{CallChange, done}
 use Rattle.kernel_calls.specs.CallAnswers.Refusals.{first_refusal}
 use Rattle.kernel_calls.proofs.CallAnswers.FoundTask.{reads}
 use Rattle.kernel_calls.proofs.CallAnswers.Refusals.{guest-at}
@@ -52,7 +52,7 @@ use Rattle.tripos_machine.proofs.PacketHistory.LeftStores.{call-holds, left-hold
 -- ---- a module is loaded
 
 -- what is made of the lists where there is room for it
-abbrev loaded : Lists → List Hunk → Made
+abbrev loaded : Lists → List Hunk → CallChange
 loaded l hunks = record { answer = Ok (loaded_at hunks l); lists = with_loaded hunks l; plain = hunk_words (loaded_at hunks l) hunks; events = [] }
 
 load-valid : (s : List ℕ) (l : Lists) (hunks : List Hunk) → HoldsLists s l → AreValid (load_module l hunks).lists

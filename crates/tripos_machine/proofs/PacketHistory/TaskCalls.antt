@@ -19,7 +19,7 @@ use Rattle.kernel_model.specs.KernelRecord.Task.{Task}
 use Rattle.kernel_model.specs.KernelRecord.ValidLists.{AreValid}
 use Rattle.kernel_calls.specs.CallAnswers.Callers.{HasCaller}
 use Rattle.kernel_calls.specs.CallAnswers.Guests.{GuestAt, guest_tests}
-use Rattle.kernel_calls.specs.CallAnswers.Made.{done}
+use Rattle.kernel_calls.specs.CallAnswers.CallChange.{done}
 use Rattle.kernel_calls.specs.CallAnswers.Modules.{has_module}
 use Rattle.kernel_calls.specs.CallAnswers.Refusals.{first_refusal}
 use Rattle.kernel_calls.proofs.CallAnswers.FoundTask.{reads}

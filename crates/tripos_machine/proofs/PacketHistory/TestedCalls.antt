@@ -4,12 +4,12 @@ use Rattle.kernel_model.specs.KernelRecord.Lists.{Lists, address_of_task}
 use Rattle.kernel_model.specs.KernelRecord.ValidLists.{AreValid}
 use Rattle.kernel_calls.specs.CallAnswers.Callers.{HasCaller}
 use Rattle.kernel_calls.specs.CallAnswers.Guests.{GuestAt, guest_tests}
-use Rattle.kernel_calls.specs.CallAnswers.Made.{Made, by_refusal, unless_refused}
+use Rattle.kernel_calls.specs.CallAnswers.CallChange.{CallChange, by_refusal, unless_refused}
 use Rattle.kernel_calls.specs.CallAnswers.Refusals.{first_refusal}
 use Rattle.kernel_calls.proofs.CallAnswers.Refusals.{guest-at, guest-parts}
 use Rattle.kernel_calls.proofs.CallAnswers.RunningTask.{there-at}
 
-pub unless-valid : (tests : List (Bool × ℕ)) (l : Lists) (m : Made) → AreValid l → (first_refusal tests ≡ None → AreValid m.lists) → AreValid (unless_refused tests l m).lists
+pub unless-valid : (tests : List (Bool × ℕ)) (l : Lists) (m : CallChange) → AreValid l → (first_refusal tests ≡ None → AreValid m.lists) → AreValid (unless_refused tests l m).lists
 unless-valid tests l m v made = on (first_refusal tests) refl
   where
     on : (o : Option ℕ) → first_refusal tests ≡ o → AreValid (by_refusal o l m).lists

@@ -11,7 +11,7 @@ use Rattle.kernel_model.specs.KernelRecord.Lists.{Lists, has_task}
 use Rattle.kernel_model.specs.KernelRecord.Task.{is_guest_id}
 use Rattle.kernel_model.specs.KernelRecord.ValidKernel.{IsValid}
 use Rattle.kernel_model.specs.KernelRecord.ValidLists.{AreValid}
-use Rattle.guest_turns.specs.GuestTurn.{Turned, turn_without_reporter}
+use Rattle.guest_turns.specs.GuestTurn.{GuestTurn, turn_without_reporter}
 use Rattle.guest_turns.proofs.FaultedTurn.{fault-untouched}
 use Rattle.resident_tasks.specs.FaultReporter.Recorded.{recorded, recorded_events}
 use Rattle.kernel_machine.specs.KernelSteps.GuestSteps.{guest_step, with_recorded}
@@ -39,7 +39,7 @@ module _ (due : KernelEvent → ℕ) (k : Kernel) (h : HoldsLists (image k) k.li
   guest-leads : is_guest_id l.running ≡ true → Leads (guest_step k)
   guest-leads guest = guest-ways Turns (image k) l k.regs moved record-fault
     where
-      Turns : Turned → Type 0
+      Turns : GuestTurn → Type 0
       Turns m = MovesInTurn due (signed l.running) l m.events m.lists
 
       there : has_task l.running l.tasks ≡ true
@@ -50,7 +50,7 @@ module _ (due : KernelEvent → ℕ) (k : Kernel) (h : HoldsLists (image k) k.li
 
       record-fault : (f : Fault) → IsRecorded (image k) l k.regs f → Turns (with_recorded f (turn_without_reporter (image k) l k.regs))
       record-fault f r =
-          let m : Turned = turn_without_reporter (image k) l k.regs in
+          let m : GuestTurn = turn_without_reporter (image k) l k.regs in
           let same : m.lists ≡ l = (fault-untouched l f (image k) k.regs r.ends).lists in
           then-moved due (signed l.running) l m.lists (recorded f m.lists) m.events (recorded_events f m.lists) moved
           (subst (λ n. MovesInTurn due (signed n) m.lists (recorded_events f m.lists) (recorded f m.lists)) (ap (λ (z : Lists). z.running) same)

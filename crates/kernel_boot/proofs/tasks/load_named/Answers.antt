@@ -1,5 +1,5 @@
 use Rattle.std.proofs.Common.{◌∙◌, ℕ, List, Option, sym, subst}
-use Rattle.kernel_calls.specs.CallAnswers.Made.{IsMade}
+use Rattle.kernel_calls.specs.CallAnswers.CallChange.{IsMade}
 use Rattle.kernel_boot.specs.BootTasks.{load_bytes}
 use Rattle.kernel_boot.proofs.StoresAfterCalls.{text-made}
 use Rattle.kernel_boot.proofs.tasks.load_named.Goals as goal

@@ -1,6 +1,6 @@
 use Rattle.std.proofs.Common.{◌≡◌, [], ◌∷◌, sym, ◌∙◌, subst}
 use Rattle.kernel_calls.specs.CallAnswers.Guests.{GuestAt}
-use Rattle.kernel_calls.specs.CallAnswers.Made.{IsMade}
+use Rattle.kernel_calls.specs.CallAnswers.CallChange.{IsMade}
 use Rattle.kernel_calls.proofs.PacketCalls.CallerTask.{caller-number}
 use Rattle.kernel_calls.specs.TaskCalls.CreateTask.{MayCreate, create_task}
 use Rattle.kernel_calls.proofs.CreatedByCaller.{caller-creates}

@@ -1,7 +1,7 @@
 use Rattle.std.proofs.Common.{◌%◌, [], ◌∷◌, Ok, refl, sym, ap, ◌∙◌, subst}
 use Rattle.kernel_model.specs.KernelRecord.Changes.{queue_of}
 use Rattle.kernel_model.specs.KernelRecord.ValidQueues.Place.{Work}
-use Rattle.kernel_calls.specs.CallAnswers.Made.{IsMade, minus_one, plain_answer}
+use Rattle.kernel_calls.specs.CallAnswers.CallChange.{IsMade, minus_one, plain_answer}
 use Rattle.kernel_calls.specs.BlockCalls.Freevec.{freevec}
 use Rattle.kernel_calls.specs.BlockCalls.Getvec.{getvec}
 use Rattle.kernel_calls.specs.CoroutineCalls.CallCo.{callco}

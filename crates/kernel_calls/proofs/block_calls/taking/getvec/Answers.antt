@@ -1,7 +1,7 @@
 use Rattle.std.proofs.Common.{◌∙◌, Err, sym, subst}
 use Rattle.std.proofs.lemmas.Result.{err_from_is_err_and}
 use Rattle.kernel_calls.proofs.CallAnswers.FoundTask.{reads}
-use Rattle.kernel_calls.specs.CallAnswers.Made.{IsMade}
+use Rattle.kernel_calls.specs.CallAnswers.CallChange.{IsMade}
 use Rattle.kernel_calls.proofs.CallAnswers.MadeCalls.{handed-on}
 use Rattle.kernel_calls.specs.BlockCalls.Getvec.{getvec}
 use Rattle.kernel_calls.proofs.BlockCalls.TakenBlock.{getvec-made, getvec-refused}

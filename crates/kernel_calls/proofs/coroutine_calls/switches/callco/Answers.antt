@@ -1,6 +1,6 @@
 use Rattle.std.proofs.Common.{sym, subst}
 use Rattle.kernel_calls.specs.CoroutineCalls.CallCo.{callco}
-use Rattle.kernel_calls.specs.CoroutineCalls.Switched.{IsSwitched}
+use Rattle.kernel_calls.specs.CoroutineCalls.SwitchChange.{IsSwitched}
 use Rattle.kernel_calls.proofs.CoroutineCalls.CallersTask.{callers-stood}
 use Rattle.kernel_calls.proofs.CoroutineCalls.MadeSwitches.{callco-made}
 use Rattle.kernel_calls.proofs.coroutine_calls.switches.callco.Goals as goal

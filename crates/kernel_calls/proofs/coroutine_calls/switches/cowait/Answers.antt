@@ -1,6 +1,6 @@
 use Rattle.std.proofs.Common.{sym, subst}
 use Rattle.kernel_calls.specs.CoroutineCalls.CoWait.{cowait}
-use Rattle.kernel_calls.specs.CoroutineCalls.Switched.{IsSwitched}
+use Rattle.kernel_calls.specs.CoroutineCalls.SwitchChange.{IsSwitched}
 use Rattle.kernel_calls.proofs.CoroutineCalls.CallersTask.{callers-stood}
 use Rattle.kernel_calls.proofs.CoroutineCalls.MadeSwitches.{cowait-made}
 use Rattle.kernel_calls.proofs.coroutine_calls.switches.cowait.Goals as goal

@@ -12,7 +12,7 @@ use Rattle.kernel_lists.specs.declared.hunk_loader.calls.LoadEnd.{LoadEnd}
 use Rattle.kernel_lists.specs.declared.hunk_loader.calls.LoadEnd.TheVariants.{Module as BadText, NoRoom}
 use Rattle.kernel_lists.proofs.HunkLoader.HeldModuleLists.{held-modules}
 use Rattle.kernel_model.specs.KernelRecord.ChangedStore.{Knows}
-use Rattle.kernel_calls.specs.CallAnswers.Made.{IsMade}
+use Rattle.kernel_calls.specs.CallAnswers.CallChange.{IsMade}
 use Rattle.kernel_calls.proofs.CallAnswers.FoundTask.{reads}
 use Rattle.kernel_calls.proofs.CallAnswers.MadeCalls.{handed-on}
 use Rattle.kernel_calls.specs.BlockCalls.FreeStore.{with_taken}

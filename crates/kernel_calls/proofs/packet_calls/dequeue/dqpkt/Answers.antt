@@ -1,7 +1,7 @@
 use Rattle.std.proofs.Common.{Err, sym, ap, ◌∙◌, subst}
 use Rattle.std.proofs.lemmas.Result.{err_from_is_err_and}
 use Rattle.kernel_lists.specs.PacketQueue.Log.{Notes}
-use Rattle.kernel_calls.specs.CallAnswers.Made.{IsMade}
+use Rattle.kernel_calls.specs.CallAnswers.CallChange.{IsMade}
 use Rattle.kernel_calls.specs.PacketCalls.Dqpkt.{dqpkt}
 use Rattle.kernel_calls.proofs.PacketCalls.DequeueCall.{found-packet, found-queue, is-dequeued, is-noted, not-dequeued, not-noted, not-queued, nowhere, residents-own, some-found}
 use Rattle.kernel_calls.proofs.PacketCalls.NamedQueues.{Names, names-none, names-some, queue-none, queue-some}

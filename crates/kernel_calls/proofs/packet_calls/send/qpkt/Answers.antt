@@ -3,7 +3,7 @@ use Rattle.std.proofs.lemmas.Result.{err_from_is_err_and}
 use Rattle.word_store.specs.Arithmetic.{signed}
 use Rattle.kernel_lists.specs.PacketQueue.Log.{Notes}
 use Rattle.kernel_lists.specs.declared.packet_queue.events.KernelEvent.TheVariants.{Accepted}
-use Rattle.kernel_calls.specs.CallAnswers.Made.{IsMade, plain_answer}
+use Rattle.kernel_calls.specs.CallAnswers.CallChange.{IsMade, plain_answer}
 use Rattle.kernel_calls.specs.CallAnswers.Refusals.{first_refusal}
 use Rattle.kernel_calls.proofs.CallAnswers.Refusals.{answer_of-ok, answer_of-err}
 use Rattle.kernel_calls.specs.PacketCalls.Destinations.{destination_of}

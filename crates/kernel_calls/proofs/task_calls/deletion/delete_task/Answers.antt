@@ -1,7 +1,7 @@
 use Rattle.std.proofs.Common.{◌≡◌, ◌++◌, ℕ, List, Some, None, Ok, sym, ap, ◌∙◌}
 use Rattle.std.proofs.lemmas.Result.{err_from_is_err_and}
 use Rattle.kernel_calls.specs.CallAnswers.Guests.{GuestAt, guest_tests}
-use Rattle.kernel_calls.specs.CallAnswers.Made.{done, minus_one}
+use Rattle.kernel_calls.specs.CallAnswers.CallChange.{done, minus_one}
 use Rattle.kernel_calls.specs.CallAnswers.Refusals.{first_refusal}
 use Rattle.kernel_calls.proofs.CallAnswers.MadeCalls.{handed-plain, made-accepted, made-refused}
 use Rattle.kernel_calls.proofs.CallAnswers.Refusals.{answer_of-err, answer_of-ok, first_refusal-failed, first_refusal-passed}

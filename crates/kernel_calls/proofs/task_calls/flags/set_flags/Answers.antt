@@ -2,7 +2,7 @@ use Rattle.std.proofs.Common.{◌+◌, [], Ok, bit_or, set, refl, sym, ap, ◌�
 use Rattle.kernel_model.specs.KernelRecord.ChangedStore.{IsChanged}
 use Rattle.kernel_model.specs.KernelRecord.Changes.{with_task}
 use Rattle.kernel_calls.specs.CallAnswers.Guests.{GuestAt, guest_tests}
-use Rattle.kernel_calls.specs.CallAnswers.Made.{done, minus_one}
+use Rattle.kernel_calls.specs.CallAnswers.CallChange.{done, minus_one}
 use Rattle.kernel_calls.proofs.CallAnswers.MadeCalls.{leaves-accepted}
 use Rattle.kernel_calls.specs.TaskCalls.SetFlags.{flagged}
 use Rattle.kernel_calls.proofs.TaskCalls.Flagged.{flags-changed}

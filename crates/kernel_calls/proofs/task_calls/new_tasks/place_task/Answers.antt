@@ -1,6 +1,6 @@
 use Rattle.std.proofs.Common.{ℕ, List, Err, refl, subst, arith}
 use Rattle.std.proofs.lemmas.Result.{err_from_is_err_and}
-use Rattle.kernel_calls.specs.CallAnswers.Made.{IsMade}
+use Rattle.kernel_calls.specs.CallAnswers.CallChange.{IsMade}
 use Rattle.kernel_calls.proofs.CallAnswers.MadeCalls.{handed-on}
 use Rattle.kernel_calls.specs.BlockCalls.FreeStore.{data_taken, with_taken}
 use Rattle.kernel_calls.specs.BlockCalls.Getvec.{getvec, getvec_tests}

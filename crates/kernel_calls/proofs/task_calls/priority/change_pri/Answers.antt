@@ -2,7 +2,7 @@ use Rattle.std.proofs.Common.{◌≡◌, ◌++◌, None, [], Ok, refl, sym, ◌�
 use Rattle.std.proofs.lemmas.Result.{err_from_is_err_and}
 use Rattle.kernel_model.specs.KernelRecord.ChangedStore.{IsChanged}
 use Rattle.kernel_calls.specs.CallAnswers.Guests.{GuestAt, guest_tests}
-use Rattle.kernel_calls.specs.CallAnswers.Made.{done, minus_one}
+use Rattle.kernel_calls.specs.CallAnswers.CallChange.{done, minus_one}
 use Rattle.kernel_calls.specs.CallAnswers.Refusals.{first_refusal}
 use Rattle.kernel_calls.proofs.CallAnswers.FoundTask.{reads}
 use Rattle.kernel_calls.proofs.CallAnswers.MadeCalls.{leaves-accepted, leaves-refused}

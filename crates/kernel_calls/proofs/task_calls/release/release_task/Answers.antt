@@ -2,7 +2,7 @@ use Rattle.std.proofs.Common.{◌+◌, ◌-◌, [], ◌∷◌, set, true, false,
 use Rattle.std.proofs.lemmas.Result.{err_from_is_err_and}
 use Rattle.kernel_model.specs.KernelRecord.ChangedStore.{IsChanged}
 use Rattle.kernel_model.specs.KernelRecord.Changes.{with_task}
-use Rattle.kernel_calls.specs.CallAnswers.Made.{done, minus_one}
+use Rattle.kernel_calls.specs.CallAnswers.CallChange.{done, minus_one}
 use Rattle.kernel_calls.specs.CallAnswers.Guests.{guest_tests}
 use Rattle.kernel_calls.proofs.CallAnswers.Refusals.{first_refusal-failed}
 use Rattle.kernel_calls.proofs.CallAnswers.MadeCalls.{leaves-accepted, leaves-refused}

@@ -6,7 +6,7 @@ use Rattle.kernel_model.proofs.KernelRecord.NotedInTurn.{notes-none}
 use Rattle.kernel_lists.specs.PacketQueue.QueueWords.{QueuedPacket}
 use Rattle.kernel_calls.proofs.PacketCalls.HeldPlaces.{HasFirst}
 use Rattle.kernel_devices.specs.Keys.{left_typed, met}
-use Rattle.kernel_calls.specs.PacketCalls.Returned.{IsServed, Served, first_returned, unserved}
+use Rattle.kernel_calls.specs.PacketCalls.Returned.{DeviceChange, IsServed, first_returned, unserved}
 use Rattle.kernel_calls.specs.declared.packet_calls.returns.Device.TheVariants.{Keyboard}
 use Rattle.kernel_calls.proofs.PacketCalls.DeviceQueues.{none-waits, one-waits, served-none}
 use Rattle.kernel_devices.proofs.typed.Tty.meet.Goals as goal
@@ -42,7 +42,7 @@ returns-then-root-eq0-clause-left g c = λ l h. sym (ap (left_typed c.args.self.
 
 pub returns-then-root-eq0-clause-notes : goal.returns-then-root-eq0-clause-notes
 returns-then-root-eq0-clause-notes g c = λ l h.
-    subst (λ (m : Served). NotesAll (g.L.EventLog.noted c.args.log.now) (g.L.EventLog.noted c.args.log.now) (g.L.EventLog.has_failed c.args.log.now) (g.L.EventLog.has_failed c.args.log.now) m.events)
+    subst (λ (m : DeviceChange). NotesAll (g.L.EventLog.noted c.args.log.now) (g.L.EventLog.noted c.args.log.now) (g.L.EventLog.has_failed c.args.log.now) (g.L.EventLog.has_failed c.args.log.now) m.events)
     (sym (none-met c.args.self.now l (none-waits c.args.store.now l Keyboard h (sym c.root.ensures ∙ c.if-root-eq0.true)))) (notes-none (g.L.EventLog.noted c.args.log.now) (g.L.EventLog.has_failed c.args.log.now))
 
 pub returns-in_default-clause-lists : goal.returns-in_default-clause-lists

@@ -1,7 +1,7 @@
 use Rattle.std.proofs.Common.{◌∙◌, ◌&&◌, ap, is_some, not, sym, subst}
 use Rattle.std.proofs.lemmas.Bool.{and_parts}
 use Rattle.kernel_calls.specs.CallAnswers.Outside.{outside}
-use Rattle.resident_tasks.specs.ConsoleHandler.Progress.{IsDone}
+use Rattle.resident_tasks.specs.ConsoleHandler.TurnParts.{IsDone}
 use Rattle.resident_tasks.proofs.ConsoleHandler.DoneParts.{done-residents}
 use Rattle.resident_tasks.proofs.ConsoleHandler.FreeKeys.{keys-go, keys-stay}
 use Rattle.resident_tasks.proofs.console_handler.keys.send_free_keys.Goals as goal

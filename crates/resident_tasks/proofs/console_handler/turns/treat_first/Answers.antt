@@ -1,6 +1,6 @@
 use Rattle.std.proofs.Common.{◌∙◌, sym, subst}
 use Rattle.kernel_calls.specs.CallAnswers.Outside.{outside}
-use Rattle.resident_tasks.specs.ConsoleHandler.Progress.{IsDone}
+use Rattle.resident_tasks.specs.ConsoleHandler.TurnParts.{IsDone}
 use Rattle.resident_tasks.proofs.ConsoleHandler.WholeTurn.{finds-keys, key-treated, none-treated, request-treated, takes-request}
 use Rattle.resident_tasks.proofs.console_handler.turns.treat_first.Goals as goal
 

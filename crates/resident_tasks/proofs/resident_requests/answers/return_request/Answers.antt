@@ -2,7 +2,7 @@ use Rattle.std.proofs.Common.{◌∙◌, Ok, ap, subst, w32}
 use Rattle.std.proofs.Math.Facts.{to_z-of_z}
 use mir.Val.{of_z, to_z}
 use Rattle.word_store.specs.Arithmetic.{word_of}
-use Rattle.kernel_calls.specs.CallAnswers.Made.{Leaves, minus_one}
+use Rattle.kernel_calls.specs.CallAnswers.CallChange.{Leaves, minus_one}
 use Rattle.kernel_calls.specs.PacketCalls.Reply.{reply}
 use Rattle.resident_tasks.proofs.ResidentRequests.ReturnedRequest.{can-return, is-noted, is-returned, owners-returned, return-room}
 use Rattle.resident_tasks.proofs.ResidentRequests.RunningResident.{runs-work}

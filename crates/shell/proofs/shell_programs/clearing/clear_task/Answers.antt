@@ -1,7 +1,7 @@
 use Rattle.std.proofs.Common.{sym, ap, ◌∙◌}
 use Rattle.std.specs.Prelude.{is_ok}
 use Rattle.kernel_calls.specs.CallAnswers.Guests.{GuestAt}
-use Rattle.kernel_calls.specs.CallAnswers.Made.{plain_answer}
+use Rattle.kernel_calls.specs.CallAnswers.CallChange.{plain_answer}
 use Rattle.kernel_model.specs.KernelRecord.Lists.{Lists}
 use Rattle.kernel_calls.specs.TaskCalls.DeleteTask.{delete_task}
 use Rattle.shell.proofs.ShellPrograms.ClearedTask.{cleared-none, cleared-other, cleared-refused, cleared-whole, deleted-keeper}

@@ -1,5 +1,5 @@
 use Rattle.std.proofs.Common.{sym, ◌∙◌, arith}
-use Rattle.kernel_calls.specs.CallAnswers.Made.{plain_answer}
+use Rattle.kernel_calls.specs.CallAnswers.CallChange.{plain_answer}
 use Rattle.kernel_model.specs.KernelRecord.Lists.{Lists}
 use Rattle.kernel_model.specs.KernelRecord.StoreWithLists.{store_with_lists}
 use Rattle.shell.specs.ShellPrograms.StartedProgram.{creation}

@@ -12,25 +12,26 @@ use Rattle.kernel_calls.specs.CallAnswers.Outside.{Outside}
 use Rattle.resident_tasks.specs.ResidentRequests.Requests.{RunsResident}
 use Rattle.kernel_model.specs.declared.kernel_record.numbers.TheConstants.{CONSOLE}
 
--- How far a turn of the console has come.
-pub record Progress : Type 0 where
+-- How far a turn of the console has come: the parts of a ResidentTurn so far, but with the words as they are now, and what the
+-- console keeps.
+pub record ConsoleTurn : Type 0 where
   -- the words of the store, from address 0
   pub words : List ℕ
   -- the lists that they hold
   pub lists : Lists
   -- the plain words that were written so far, the last ones first
   pub plain : Pairs
-  -- the bytes that went to the console so far
-  pub bytes : List ℕ
   -- the events so far, in their order
   pub events : List KernelEvent
+  -- the bytes that went to the console so far
+  pub bytes : List ℕ
   -- the console's line
   pub console : Console
   -- the line that the shell has
   pub command : List ℕ
 
 -- nothing is done yet
-abbrev pub begun : List ℕ → Lists → Console → List ℕ → Progress
+abbrev pub begun : List ℕ → Lists → Console → List ℕ → ConsoleTurn
 begun s l c k = record { words = s; lists = l; plain = []; bytes = []; events = []; console = c; command = k }
 
 -- the words of a store once it holds these lists, and these plain words were written
@@ -38,7 +39,7 @@ unfoldable pub settled_words : List ℕ → Lists → Pairs → List ℕ
 settled_words s l plain = map (λ a. unwrap_or (word_in a (owned l)) (slice_index (written plain s) a)) (range_with_len 0 (length s))
 
 -- a part more is done, which leaves these lists, has written these plain words, and has these events
-abbrev pub and_then : Progress → Lists → Pairs → List KernelEvent → Progress
+abbrev pub and_then : ConsoleTurn → Lists → Pairs → List KernelEvent → ConsoleTurn
 and_then g l plain events = record g {
   words = settled_words g.words l plain;
   lists = l;
@@ -47,7 +48,7 @@ and_then g l plain events = record g {
 }
 
 -- How a turn of the console begins.
-pub record Start : Type 0 where
+pub record ShellStart : Type 0 where
   -- the words of the store, from address 0
   pub words : List ℕ
   -- the lists that they hold
@@ -57,7 +58,7 @@ pub record Start : Type 0 where
 
 -- So much is done since then: the store is t, the keeper knows the words of its lists, and the rest is as the code has it. The same
 -- words are owned.
-pub record IsDone (b : Start) (t : List ℕ) (tells : List ℕ → Type 0) (room : ℕ) (now : Outside) (console : Console) (command : List ℕ) (g : Progress) : Type 0 where
+pub record IsDone (b : ShellStart) (t : List ℕ) (tells : List ℕ → Type 0) (room : ℕ) (now : Outside) (console : Console) (command : List ℕ) (g : ConsoleTurn) : Type 0 where
   -- these are all words of the store
   pub words : t ≡ g.words
   -- the store holds the lists, and the plain words alone have changed

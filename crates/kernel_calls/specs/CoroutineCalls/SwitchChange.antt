@@ -11,26 +11,27 @@ use Rattle.kernel_model.specs.KernelRecord.Owned.{owned}
 use Rattle.kernel_calls.specs.CallAnswers.Refusals.{first_refusal}
 use Rattle.kernel_calls.specs.CoroutineCalls.CallersCoroutines.{coroutines_of_caller, with_callers}
 
--- What a switch between coroutines leaves. It writes no plain word, and has no events.
-pub record Switched : Type 0 where
-  -- whether it is accepted, or the code with which it is refused
-  pub answer : Result (Unit {0}) ℕ
+-- What a switch between coroutines leaves: of the parts of a KernelChange the lists alone, since it writes no plain word and has no
+-- events, the registers, and its answer.
+pub record SwitchChange : Type 0 where
   -- the lists
   pub lists : Lists
   -- the registers
   pub regs : Regs
+  -- whether it is accepted, or the code with which it is refused
+  pub answer : Result (Unit {0}) ℕ
 
 -- refused with this code, it changes nothing
-abbrev pub refused : Lists → Regs → ℕ → Switched
+abbrev pub refused : Lists → Regs → ℕ → SwitchChange
 refused l r code = record { answer = Err code; lists = l; regs = r }
 
 -- refused or not, as this says, it makes that of lists and registers
-abbrev pub by_refusal : Option ℕ → Lists → Regs → Switched → Switched
+abbrev pub by_refusal : Option ℕ → Lists → Regs → SwitchChange → SwitchChange
 by_refusal None l r made = made
 by_refusal (Some code) l r made = refused l r code
 
 -- a switch is refused by the first of its tests that does not hold, and else makes this
-abbrev pub unless_refused : List (Bool × ℕ) → Lists → Regs → Switched → Switched
+abbrev pub unless_refused : List (Bool × ℕ) → Lists → Regs → SwitchChange → SwitchChange
 unless_refused tests l r made = by_refusal (first_refusal tests) l r made
 
 -- what the coroutine at c has there
@@ -54,7 +55,7 @@ abbrev pub entered : ℕ → ℕ → TaskCoroutines → Regs → Regs
 entered c v k r = record (handed v r) { p = p_of c k; pc = pc_of c k }
 
 -- The caller's coroutines change so, and the one that is current then goes on with v.
-abbrev pub switched : (TaskCoroutines → TaskCoroutines) → ℕ → Lists → Regs → Switched
+abbrev pub switched : (TaskCoroutines → TaskCoroutines) → ℕ → Lists → Regs → SwitchChange
 switched change v l r = record {
   answer = Ok tt;
   lists = with_callers change l;
@@ -63,7 +64,7 @@ switched change v l r = record {
 
 -- The store that was s is t: where s held the lists l, it holds those that the call leaves, and nothing else has changed; its
 -- answer and the registers are these. The same words are owned before and after, so no keeper of kinds has to be told.
-pub record IsSwitched (s t : List ℕ) (l : Lists) (after : Regs) (result : Result (Unit {0}) ℕ) (m : Switched) : Type 0 where
+pub record IsSwitched (s t : List ℕ) (l : Lists) (after : Regs) (result : Result (Unit {0}) ℕ) (m : SwitchChange) : Type 0 where
   -- the store holds these lists, and no plain word has changed
   pub lists : IsChanged s t m.lists []
   -- the registers
