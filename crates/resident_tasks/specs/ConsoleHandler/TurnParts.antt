@@ -48,7 +48,7 @@ and_then g l plain events = record g {
 }
 
 -- How a turn of the console begins.
-pub record ShellStart : Type 0 where
+pub record ConsoleStart : Type 0 where
   -- the words of the store, from address 0
   pub words : List ℕ
   -- the lists that they hold
@@ -58,7 +58,7 @@ pub record ShellStart : Type 0 where
 
 -- So much is done since then: the store is t, the keeper knows the words of its lists, and the rest is as the code has it. The same
 -- words are owned.
-pub record IsDone (b : ShellStart) (t : List ℕ) (tells : List ℕ → Type 0) (room : ℕ) (now : Outside) (console : Console) (command : List ℕ) (g : ConsoleTurn) : Type 0 where
+pub record IsDone (b : ConsoleStart) (t : List ℕ) (tells : List ℕ → Type 0) (room : ℕ) (now : Outside) (console : Console) (command : List ℕ) (g : ConsoleTurn) : Type 0 where
   -- these are all words of the store
   pub words : t ≡ g.words
   -- the store holds the lists, and the plain words alone have changed
