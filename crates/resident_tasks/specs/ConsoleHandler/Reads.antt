@@ -6,6 +6,7 @@ use Rattle.kernel_lists.specs.PacketQueue.QueueWords.{QueuedPacket}
 use Rattle.kernel_lists.specs.declared.packet_queue.events.KernelEvent.TheVariants.{Accepted, Taken}
 use Rattle.kernel_model.specs.KernelRecord.ChangedStore.{IsChanged, Knows}
 use Rattle.kernel_model.specs.KernelRecord.Changes.{with_queue}
+use Rattle.kernel_model.specs.KernelRecord.KernelChange.{KernelChange}
 use Rattle.kernel_model.specs.KernelRecord.Lists.{Lists}
 use Rattle.kernel_model.specs.KernelRecord.ValidQueues.Place.{Pending}
 use Rattle.kernel_calls.specs.CallAnswers.CallChange.{CallChange, minus_one}
@@ -13,7 +14,7 @@ use Rattle.kernel_calls.specs.PacketCalls.PacketMoves.{sent_packet, with_arrived
 use Rattle.kernel_calls.specs.PacketCalls.QueueWords.{unqueued}
 use Rattle.kernel_calls.specs.declared.packet_calls.queues.Queue.TheVariants as queues
 use Rattle.resident_tasks.specs.ResidentRequests.Answers.{OwnsRequest}
-use Rattle.resident_tasks.specs.ResidentRequests.Requests.{HasRequest, KernelChange, first_request}
+use Rattle.resident_tasks.specs.ResidentRequests.Requests.{HasRequest, first_request}
 use Rattle.resident_tasks.specs.declared.resident_requests.requests.Request.{Request}
 use Rattle.kernel_model.specs.declared.kernel_record.numbers.TheConstants.{PENDING}
 
