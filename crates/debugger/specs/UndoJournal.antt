@@ -1,5 +1,5 @@
 pub mod Journals
 pub mod FormerWords
-pub mod Rings
 pub mod KeptPast
 pub mod KeptJournal
+pub mod Private

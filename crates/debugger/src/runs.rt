@@ -5,7 +5,7 @@ ghost use Rattle.kernel_model.specs.KernelRecord.Ranges.{most_steps};
 ghost use Rattle.tripos_machine.specs.State.{steps_of, stop_of};
 ghost use Rattle.tripos_machine.specs.Step.{run};
 ghost use Rattle.debugger.specs.Debugged.{steps_left, steps_text, steps_to};
-ghost use Rattle.debugger.specs.Runs.{EndsSteps, IsWithin};
+ghost use Rattle.debugger.specs.Private.Runs.{EndsSteps, IsWithin};
 ghost use Rattle.debugger.specs.Views.{is_at, is_end, is_guest_next};
 
 use crate::breakpoints::Breakpoints;

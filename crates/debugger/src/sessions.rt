@@ -9,7 +9,7 @@ ghost use Rattle.debugger.specs.Breakpoints.{with_breakpoint};
 ghost use Rattle.debugger.specs.Debugged.{Debugging, HasDebugged, debugged, fewer_text, full_text, line_obeyed, obeyed};
 ghost use Rattle.debugger.specs.OrderLines.{takes_steps};
 ghost use Rattle.debugger.specs.Orders.{order_of};
-ghost use Rattle.debugger.specs.Runs.{EndsTold, IsWithin};
+ghost use Rattle.debugger.specs.Private.Runs.{EndsTold, IsWithin};
 ghost use Rattle.debugger.specs.Texts.{place_text};
 
 use crate::Order;

@@ -18,7 +18,7 @@ use Rattle.kernel_model.specs.KernelRecord.ValidLists.{AreValid}
 use Rattle.kernel_model.specs.KernelRecord.ValidTasks.{IsField, IsTask}
 use Rattle.kernel_model.proofs.KernelRecord.ChangedLists.{exchange-owned, one_task-owned, owners-exchanged}
 use Rattle.kernel_model.proofs.KernelRecord.OneTask.{same_task-valid}
-use Rattle.kernel_model.specs.KernelDispatch.DispatchWords.{saved_words}
+use Rattle.kernel_model.specs.KernelDispatch.Private.DispatchWords.{saved_words}
 use Rattle.kernel_model.proofs.KernelDispatch.StateExchanges.{exchange-suspended, exchange-task}
 use Rattle.kernel_model.proofs.KernelDispatch.TaskStates.{by-field}
 use Rattle.kernel_calls.specs.CallAnswers.Guests.{GuestAt}

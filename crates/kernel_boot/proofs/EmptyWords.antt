@@ -11,7 +11,7 @@ use Rattle.kernel_model.specs.KernelRecord.Owned.{owned}
 use Rattle.kernel_model.specs.KernelRecord.Root.{root_words}
 use Rattle.kernel_model.specs.KernelRecord.Task.{filled}
 use Rattle.kernel_model.specs.KernelRecord.Versions.{highest_id_of}
-use Rattle.kernel_boot.specs.BootWords.{root_pairs}
+use Rattle.kernel_boot.specs.Private.BootWords.{root_pairs}
 use Rattle.kernel_boot.specs.EmptyKernel.{empty_lists}
 use Rattle.kernel_model.proofs.KernelRecord.RootCounts.{highest-high}
 

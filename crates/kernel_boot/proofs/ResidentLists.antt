@@ -19,7 +19,7 @@ use Rattle.kernel_model.specs.KernelRecord.ValidLists.{AreValid}
 use Rattle.kernel_model.proofs.KernelRecord.CutRanges.{times-cut}
 use Rattle.kernel_model.proofs.KernelRecord.RootCounts.{owners-nodes}
 use Rattle.kernel_model.proofs.KernelRecord.TaskCounts.{owners-task_by}
-use Rattle.kernel_boot.specs.BootWords.{resident_pairs}
+use Rattle.kernel_boot.specs.Private.BootWords.{resident_pairs}
 use Rattle.kernel_boot.specs.ResidentKernel.{console, fault_reporter, files, resident_block_size, resident_lists, shell}
 use Rattle.kernel_boot.proofs.ResidentRules.{residents-coroutines, residents-numbers, residents-queues, residents-tasks, residents-tile}
 use Rattle.kernel_boot.proofs.ResidentWords.{holds-residents}

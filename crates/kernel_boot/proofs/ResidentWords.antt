@@ -11,7 +11,7 @@ use Rattle.kernel_model.specs.KernelRecord.Owned.{device_words, owned, tasks_wor
 use Rattle.kernel_model.specs.KernelRecord.Residents.{resident_words}
 use Rattle.kernel_model.specs.KernelRecord.Root.{number_words, root_words, unused_entries}
 use Rattle.kernel_model.specs.KernelRecord.Versions.{highest_id_of}
-use Rattle.kernel_boot.specs.BootWords.{resident_pairs}
+use Rattle.kernel_boot.specs.Private.BootWords.{resident_pairs}
 use Rattle.kernel_boot.specs.ResidentKernel.{resident_lists}
 use Rattle.kernel_boot.proofs.FoundWords.{all-found, are_low, end-zero, word_among}
 

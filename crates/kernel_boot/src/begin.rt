@@ -5,7 +5,7 @@ ghost use Rattle.kernel_model.specs.KernelRecord.ChangedStore.{IsChanged};
 ghost use Rattle.kernel_model.specs.KernelRecord.HoldsLists.{HoldsLists};
 ghost use Rattle.kernel_model.specs.KernelRecord.Lists.{Lists};
 ghost use Rattle.kernel_model.specs.KernelRecord.ValidQueues.{HasGuest};
-ghost use Rattle.kernel_model.specs.KernelDispatch.DispatchWords.{saved_words};
+ghost use Rattle.kernel_model.specs.KernelDispatch.Private.DispatchWords.{saved_words};
 ghost use Rattle.kernel_boot.specs.BegunTask.{with_begun};
 
 use kernel_calls::guest;

@@ -3,7 +3,7 @@ ghost use Rattle.std.specs.Prelude.{◌≡◌, ◌≤◌, ◌+◌, [], IsTrue, i
 ghost use Rattle.kernel_lists.specs.OwnedWords.Owned.{written};
 ghost use Rattle.kernel_model.specs.KernelRecord.Ranges.{IsVersion, is_period, is_store_size};
 ghost use Rattle.kernel_model.specs.KernelRecord.ChangedStore.{IsChanged};
-ghost use Rattle.kernel_boot.specs.BootWords.{block_pairs, chain_pairs, fault_pairs, key_pairs, reporter_pairs, shell_pairs, waiting_pairs};
+ghost use Rattle.kernel_boot.specs.Private.BootWords.{block_pairs, chain_pairs, fault_pairs, key_pairs, reporter_pairs, shell_pairs, waiting_pairs};
 ghost use Rattle.kernel_boot.specs.ResidentKernel.{resident_block_size, resident_lists};
 
 use crate::start::write_root;

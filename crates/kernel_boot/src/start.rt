@@ -4,7 +4,7 @@ ghost use Rattle.kernel_lists.specs.OwnedWords.Owned.{written};
 ghost use Rattle.kernel_model.specs.KernelRecord.Ranges.{IsVersion, is_period, is_store_size};
 ghost use Rattle.kernel_model.specs.KernelRecord.ChangedStore.{IsChanged};
 ghost use Rattle.kernel_model.specs.KernelRecord.Versions.{highest_id_of};
-ghost use Rattle.kernel_boot.specs.BootWords.{root_pairs};
+ghost use Rattle.kernel_boot.specs.Private.BootWords.{root_pairs};
 ghost use Rattle.kernel_boot.specs.EmptyKernel.{empty_lists};
 
 use kernel_lists::{FIRST_BLOCK, RootField, TABLE, make, set_root};

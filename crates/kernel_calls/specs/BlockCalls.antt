@@ -1,4 +1,4 @@
 pub mod FreeStore
-pub mod JoinedStarts
 pub mod Getvec
 pub mod Freevec
+pub mod Private

@@ -1,4 +1,4 @@
 pub mod LoadModule
 pub mod UnloadModule
-pub mod ModuleFields
 pub mod AddModule
+pub mod Private

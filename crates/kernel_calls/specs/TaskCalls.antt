@@ -4,7 +4,6 @@ pub mod ReleaseTask
 pub mod SetFlags
 pub mod TestFlags
 pub mod ChangePri
-pub mod PacketsOut
 pub mod DeleteTask
 pub mod CreateTask
-pub mod NewTasks
+pub mod Private

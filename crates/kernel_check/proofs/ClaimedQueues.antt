@@ -21,7 +21,7 @@ use Rattle.store_claims.proofs.ListClaims.ListAnswers.{task-size}
 use Rattle.store_claims.proofs.AdoptionLaw.BlockData.{LiesInData, lies-in-data, one-block}
 use Rattle.store_claims.proofs.AdoptionLaw.ClaimableStore.{counted}
 use Rattle.kernel_check.specs.ListPasses.ClaimedStore.{IsClaimed}
-use Rattle.kernel_check.specs.ClaimedQueue.{IsClaimedQueue}
+use Rattle.kernel_check.specs.Private.ClaimedQueue.{IsClaimedQueue}
 use Rattle.kernel_check.proofs.ListPasses.CoroutineWalks.{the-blocks}
 
 module _ (s : List ℕ) (c : IsClaimed s) where

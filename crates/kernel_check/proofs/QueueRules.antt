@@ -18,7 +18,7 @@ use Rattle.kernel_check.specs.ListPasses.ClaimedStore.{IsClaimed}
 use Rattle.kernel_check.proofs.ListPasses.ClaimedWalks.{heads, of-tasks}
 use Rattle.kernel_check.proofs.ListPasses.FreePackets.{free-is, key-is}
 use Rattle.kernel_check.proofs.ListPasses.TaskTable.{running-none}
-use Rattle.kernel_check.specs.ClaimedQueue.{IsClaimedQueue}
+use Rattle.kernel_check.specs.Private.ClaimedQueue.{IsClaimedQueue}
 use Rattle.kernel_check.specs.KnownTasks.{AreTasksKnown}
 use Rattle.kernel_check.proofs.ClaimedQueues.{some-tasks, work-queues}
 use Rattle.kernel_check.proofs.TaskNumbers.{address-in}

@@ -12,7 +12,7 @@ use Rattle.kernel_model.specs.KernelRecord.KernelRanges.{has_residents}
 use Rattle.kernel_model.specs.KernelRecord.Task.{queue_head}
 use Rattle.kernel_check.specs.ListPasses.ClaimedStore.{IsClaimed}
 use Rattle.kernel_check.proofs.ListPasses.ClaimedWalks.{heads}
-use Rattle.kernel_check.specs.ClaimedQueue.{IsClaimedQueue}
+use Rattle.kernel_check.specs.Private.ClaimedQueue.{IsClaimedQueue}
 use Rattle.kernel_check.proofs.ClaimedQueues.{work-queues}
 
 -- one of the packets is at p

@@ -10,7 +10,7 @@ ghost use Rattle.kernel_model.specs.KernelRecord.Changes.{work_of};
 ghost use Rattle.kernel_model.specs.KernelRecord.HoldsLists.{HoldsLists};
 ghost use Rattle.kernel_model.specs.KernelRecord.Lists.{has_task};
 ghost use Rattle.kernel_model.specs.KernelRecord.Recovered.{lists_in, packet_in, packets_at, task_in};
-ghost use Rattle.kernel_check.specs.Reports.{is_unreported_as};
+ghost use Rattle.kernel_check.specs.Private.Reports.{is_unreported_as};
 
 use kernel_lists::{FIRST_GUEST, NO_QUEUE, TcbField, field, packets, tasks};
 use kernel_model::numbers::{FAULT_PACKET, FAULT_WORD, REPORTED, REPORTER, SENDER};

@@ -6,7 +6,7 @@ ghost use Rattle.kernel_model.specs.KernelRecord.ValidBlocks.{AreData};
 ghost use Rattle.kernel_model.specs.KernelRecord.ValidQueues.{HasSender, IsFaultPacket, IsKeyPacket, IsKeyPlace, IsValidPacket, Place, is_fault_packet, is_key_packet};
 ghost use Rattle.kernel_model.specs.KernelRecord.ValidQueues.Place.{Work};
 ghost use Rattle.kernel_check.specs.KnownTasks.{AreTasksKnown};
-ghost use Rattle.kernel_check.specs.Places.{place_of};
+ghost use Rattle.kernel_check.specs.Private.Places.{place_of};
 
 use crate::list_passes::{has_residents, highest_of};
 use crate::places::QueuePlace;

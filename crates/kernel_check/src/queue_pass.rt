@@ -11,8 +11,8 @@ ghost use Rattle.kernel_model.specs.KernelRecord.Task.{queue_head};
 ghost use Rattle.kernel_model.specs.KernelRecord.ValidQueues.{AreValidQueues, IsValidPacket, NeverFall, Place};
 ghost use Rattle.kernel_model.specs.KernelRecord.ValidQueues.Place.{Clock, Keyboard, Output, Pending, Work};
 ghost use Rattle.kernel_check.specs.KnownTasks.{AreTasksKnown};
-ghost use Rattle.kernel_check.specs.ClaimedQueue.{IsClaimedQueue};
-ghost use Rattle.kernel_check.specs.Places.{place_of};
+ghost use Rattle.kernel_check.specs.Private.ClaimedQueue.{IsClaimedQueue};
+ghost use Rattle.kernel_check.specs.Private.Places.{place_of};
 
 use crate::list_passes::has_residents;
 use crate::packet_rules::{is_task, is_valid_packet};

@@ -1,3 +1,4 @@
+pub mod Changed
 pub mod Chains
 pub mod Frames
 pub mod Insertion

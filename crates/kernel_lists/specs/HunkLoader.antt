@@ -1,6 +1,5 @@
 pub mod RelocatedWords
 pub mod ModuleRow
-pub mod Follow
 pub mod ModuleHunks
 pub mod Modules
 pub mod LoadOutcome
@@ -8,3 +7,4 @@ pub mod Globals
 pub mod GlobalWords
 pub mod HeldModules
 pub mod ModuleExchanges
+pub mod Private

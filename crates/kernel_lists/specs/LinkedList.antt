@@ -1,5 +1,4 @@
 pub mod Chain
-pub mod Changed
 pub mod Linked
 pub mod Places
 pub mod Walk

@@ -1,3 +1,3 @@
 pub mod Dispatch
-pub mod DispatchWords
 pub mod Turn
+pub mod Private

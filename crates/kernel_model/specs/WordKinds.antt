@@ -1,4 +1,4 @@
 pub mod ByteMap
 pub mod Keeper
 pub mod Searched
-pub mod ToldWords
+pub mod Private

@@ -10,6 +10,6 @@ pub mod states;
 pub mod stops;
 pub mod uses;
 
-pub use states::is_held_state;
+pub use states::{field_of_state, is_held_state};
 pub use stops::Stop;
 pub use uses::Use;

@@ -5,5 +5,5 @@ pub mod kernel_dispatch;
 pub mod kernel_record;
 pub mod word_kinds;
 
-pub use kernel_record::{Stop, Use, is_held_state, numbers};
+pub use kernel_record::{Stop, Use, field_of_state, is_held_state, numbers};
 pub use word_kinds::{ByteKinds, KindKeeper, Walk, are_unowned, packet_in};

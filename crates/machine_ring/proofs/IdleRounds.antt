@@ -10,7 +10,7 @@ use Rattle.tripos_machine.specs.Step.{Stepped, run as machine_run, step}
 use Rattle.tripos_machine.proofs.StateRuns.{run-more as machine-run-more, run-stopped as machine-run-stopped}
 use Rattle.tripos_machine.proofs.StepSizes.{step-count}
 use Rattle.machine_ring.specs.Flights.{coming, staying}
-use Rattle.machine_ring.specs.IdleRounds.{AreIdle, IsStill, is_empty, later, left_after}
+use Rattle.machine_ring.specs.Private.IdleRounds.{AreIdle, IsStill, is_empty, later, left_after}
 use Rattle.machine_ring.specs.Links.{Link, byte_taken, carried, carried_byte, carries_back, counts_after, is_new, letter_after, listed, received_after, sender_after_answer}
 use Rattle.machine_ring.specs.Rings.{Left, Ring}
 use Rattle.machine_ring.specs.Rounds.{Rounded, after_answer, after_step, can_step, has_room, left_steps, offered_by, right_after, round, shown_by, with_step, with_typing}

@@ -5,9 +5,9 @@ pub mod LinkParts
 pub mod Rings
 pub mod Rounds
 pub mod Runs
-pub mod IdleRounds
 pub mod LeftEnds
 pub mod FirstRings
 pub mod Boot
 pub mod Outcomes
 pub mod RoundEvents
+pub mod Private

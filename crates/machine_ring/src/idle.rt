@@ -4,7 +4,7 @@ ghost use Rattle.byte_streams.specs.Sinks.{FailsBySink, GathersFor};
 ghost use Rattle.kernel_model.specs.KernelRecord.Ranges.{most_steps};
 ghost use Rattle.tripos_machine.specs.Quiet.{IsIdle};
 ghost use Rattle.tripos_machine.specs.State.{stop_of};
-ghost use Rattle.machine_ring.specs.IdleRounds.{AreIdle, is_empty};
+ghost use Rattle.machine_ring.specs.Private.IdleRounds.{AreIdle, is_empty};
 ghost use Rattle.machine_ring.specs.Rounds.{can_step};
 ghost use Rattle.machine_ring.specs.Runs.{run};
 

@@ -5,7 +5,7 @@ ghost use Rattle.kernel_model.specs.KernelRecord.Ranges.{most_steps};
 ghost use Rattle.tripos_machine.specs.Quiet.{AreQuiet, IsIdle};
 ghost use Rattle.tripos_machine.specs.State.{steps_of};
 ghost use Rattle.tripos_machine.specs.Step.{run};
-ghost use Rattle.machine_ring.specs.IdleRounds.{IsStill, left_after};
+ghost use Rattle.machine_ring.specs.Private.IdleRounds.{IsStill, left_after};
 ghost use Rattle.machine_ring.specs.Rounds.{after_step, can_step};
 
 use crate::terms::MOST_WAITING;

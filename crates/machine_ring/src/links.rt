@@ -2,7 +2,7 @@
 ghost use Rattle.std.specs.Prelude.{◌≡◌, ◌+◌, ◌<◌, ◌≤◌, ◌^◌, IfOk, IsTrue, length, nat_lt};
 ghost use Rattle.circular_buffer.specs.Buffer.{buffer};
 ghost use Rattle.machine_ring.specs.Flights.{coming, staying, with_any_packet};
-ghost use Rattle.machine_ring.specs.IdleRounds.{is_empty, later};
+ghost use Rattle.machine_ring.specs.Private.IdleRounds.{is_empty, later};
 ghost use Rattle.machine_ring.specs.Links.{byte_taken, carried, carried_byte, carries_back, counts_after, is_new, letter_after, new_link, received_after, sender_after_answer};
 ghost use Rattle.machine_ring.specs.RingLink.Heads.{is_round_count, is_wait};
 ghost use Rattle.machine_ring.specs.RingLink.Senders.{sender_after_turn, sent_in_turn};

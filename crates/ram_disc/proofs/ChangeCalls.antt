@@ -201,8 +201,8 @@ module _ (names : List (List ℕ)) (a : Area) (used unused : List ℕ) (ps : Lis
       none (q ∷ qs) = none qs
 
       on : (k : ℕ) (o : Option Place) → ((q : Place) → o ≡ Some q → IsValidPlace a used ps k q) → is_on name (stream_in names o) ≡ false
-      on k None streams = refl
-      on k (Some q) streams =
+      on k None valid-place = refl
+      on k (Some q) valid-place =
           let spot = place-times q.slot used (valid-place q refl).is_there in
           let other : name_in names (get_or used spot.0 0) ≢ name = elim (cases_lt spot.0 i) [
             | inl low ↦ is_before-differ (name_in names (get_or used spot.0 0)) name (place.before spot.0 low)

@@ -83,8 +83,8 @@ module _ (names : List (List ℕ)) (a : Area) (used unused : List ℕ) (ps : Lis
       ∙ any-agree (is_on name) (is_on_slot (get_or used i 0)) names ps (λ k lt. on k (get_or ps k None) (h.streams k))
     where
       on : (k : ℕ) (p : Option Place) → ((q : Place) → p ≡ Some q → IsValidPlace a used ps k q) → is_on name (stream_in names p) ≡ is_on_slot (get_or used i 0) p
-      on k None streams = refl
-      on k (Some q) streams = on-slot h.slots name i q.slot at (valid-place q refl).is_there
+      on k None valid-place = refl
+      on k (Some q) valid-place = on-slot h.slots name i q.slot at (valid-place q refl).is_there
 
   pub is_written-at : AreKept names a used unused ps → (d : Disc) (name : List ℕ) (i : ℕ) → d.streams ≡ streams_in names ps → IsAt names used name i
       → is_written d name ≡ list_any (writes_on (get_or used i 0)) ps
@@ -93,5 +93,5 @@ module _ (names : List (List ℕ)) (a : Area) (used unused : List ℕ) (ps : Lis
       ∙ any-agree (is_writer_of name) (writes_on (get_or used i 0)) names ps (λ k lt. on k (get_or ps k None) (h.streams k))
     where
       on : (k : ℕ) (p : Option Place) → ((q : Place) → p ≡ Some q → IsValidPlace a used ps k q) → is_writer_of name (stream_in names p) ≡ writes_on (get_or used i 0) p
-      on k None streams = refl
-      on k (Some q) streams = ap (λ b. b && q.writes) (on-slot h.slots name i q.slot at (valid-place q refl).is_there)
+      on k None valid-place = refl
+      on k (Some q) valid-place = ap (λ b. b && q.writes) (on-slot h.slots name i q.slot at (valid-place q refl).is_there)

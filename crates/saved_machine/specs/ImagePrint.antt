@@ -1,3 +1,3 @@
 pub mod SavedImage
 pub mod Numbers
-pub mod Texts
+pub mod Private

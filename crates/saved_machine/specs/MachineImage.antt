@@ -1,4 +1,4 @@
 pub mod Placed
 pub mod Parts
-pub mod Rules
 pub mod Machines
+pub mod Private

@@ -7,5 +7,5 @@ pub mod ContinuedAnswers
 pub mod RingAnswers
 pub mod InputAnswers
 pub mod Input
-pub mod TracedRun
 pub mod TracedHistory
+pub mod Private

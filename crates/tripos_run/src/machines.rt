@@ -15,7 +15,7 @@ ghost use Rattle.tripos_run.specs.Answer.{closed_answer, end_after, machine_answ
 ghost use Rattle.program_answers.specs.Cause.{HasFaultCause};
 ghost use Rattle.program_answers.specs.Input.{IsTextEnd};
 ghost use Rattle.tripos_run.specs.Input.{IsMachineEnd};
-ghost use Rattle.tripos_run.specs.TracedRun.{GivesLines, StopsAt};
+ghost use Rattle.tripos_run.specs.Private.TracedRun.{GivesLines, StopsAt};
 ghost use Rattle.kernel_model.specs.KernelRecord.LoggedEvents.{LogsAll};
 
 use crate::ends::{status_of, write_end};

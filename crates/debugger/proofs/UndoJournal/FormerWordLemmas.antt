@@ -7,7 +7,7 @@ use Rattle.std.proofs.lemmas.List.FromFn.{get_or-range_with_len, length-range_wi
 use Rattle.circular_buffer.specs.Buffer.{Buffer, buffer, keep_last}
 use Rattle.debugger.specs.UndoJournal.FormerWords.{addresses_of, former_at, former_words, with_new_word, with_new_words, words_before}
 use Rattle.debugger.specs.UndoJournal.Journals.{differing}
-use Rattle.debugger.specs.UndoJournal.Rings.{ring_with}
+use Rattle.debugger.specs.UndoJournal.Private.Rings.{ring_with}
 use Rattle.debugger.specs.declared.undo_journal.former_words.FormerWord.{FormerWord}
 use Rattle.debugger.proofs.UndoJournal.RingLemmas.{keep_last-append_kept, length-keep_last-le}
 

@@ -7,7 +7,7 @@ use Rattle.debugger.specs.UndoJournal.FormerWords.{former_words, with_new_words,
 use Rattle.debugger.specs.UndoJournal.Journals.{Journal, changed_words, cut, differing, journal, noted, shortened, side_back, went_back, words_back}
 use Rattle.debugger.specs.UndoJournal.KeptJournal.{IsKept, journal_of}
 use Rattle.debugger.specs.UndoJournal.KeptPast.{AreCounted, newest_members, past_of, total_changed}
-use Rattle.debugger.specs.UndoJournal.Rings.{ring_with}
+use Rattle.debugger.specs.UndoJournal.Private.Rings.{ring_with}
 use Rattle.debugger.specs.declared.undo_journal.former_words.FormerWord.{FormerWord}
 use Rattle.debugger.specs.declared.undo_journal.journals.Journal.TheInside.{Inside}
 use Rattle.debugger.specs.declared.undo_journal.members.Member.{Member}

@@ -2,7 +2,7 @@
 ghost use Rattle.std.specs.Prelude.{◌≡◌, ◌-◌, ◌^◌, ◌<◌, ◌≤◌, drop, length, take};
 ghost use Rattle.circular_buffer.specs.Buffer.{buffer};
 ghost use Rattle.debugger.specs.UndoJournal.FormerWords.{addresses_of, former_at, former_words, with_new_word, with_new_words, words_before};
-ghost use Rattle.debugger.specs.UndoJournal.Rings.{ring_with};
+ghost use Rattle.debugger.specs.UndoJournal.Private.Rings.{ring_with};
 
 use circular_buffer::HeapCircularBuffer;
 use word_store::{Store, word};

@@ -8,7 +8,7 @@ use Rattle.std.proofs.lemmas.Bool.Decides.{nat_tests}
 use Rattle.std.proofs.lemmas.Slice.Eq.{bytes_eq-Decides}
 use Rattle.instruction_set.specs.InstructionTable.Table.{Entry, entry, column0, column1, column2, column3, column4, column5, column6, column7}
 use Rattle.instruction_set.specs.InstructionTable.Names.{byte_named, has_name, name_at}
-use Rattle.instruction_set.specs.InstructionTable.Places.{kept_byte}
+use Rattle.instruction_set.specs.InstructionTable.Private.Places.{kept_byte}
 use Rattle.instruction_set.proofs.InstructionTable.Entries.{passes_below, passes_at, entry_past}
 use Rattle.word_store.proofs.Elements.{find-passes}
 

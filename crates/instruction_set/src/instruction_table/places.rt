@@ -1,7 +1,7 @@
 // The function bytes of the names. The letters of a name make a number, and that a place, at which its byte is kept; the names of the
 // rows make places of their own, so that one look finds a name.
 ghost use Rattle.std.specs.Prelude.{◌≡◌, ◌<◌};
-ghost use Rattle.instruction_set.specs.InstructionTable.Places.{byte_at, kept_byte, key_of, key_with, place_by, shift_at};
+ghost use Rattle.instruction_set.specs.InstructionTable.Private.Places.{byte_at, kept_byte, key_of, key_with, place_by, shift_at};
 
 /// How many places there are.
 const PLACES: u32 = 256;

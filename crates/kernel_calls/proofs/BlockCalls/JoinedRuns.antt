@@ -18,7 +18,7 @@ use Rattle.kernel_lists.proofs.GetvecChain.Runs.{first_run-found}
 use Rattle.kernel_lists.proofs.GetvecChain.Tilings.{blocks_from-is}
 use Rattle.kernel_model.proofs.KernelRecord.BlockStarts.{InFree, in-free, starts-once, starts-within}
 use Rattle.kernel_model.proofs.KernelRecord.FollowedBlocks.{member-data}
-use Rattle.kernel_calls.specs.BlockCalls.JoinedStarts.{joined_start, joined_starts, rest_start}
+use Rattle.kernel_calls.specs.BlockCalls.Private.JoinedStarts.{joined_start, joined_starts, rest_start}
 
 module _ (run : Run) (a : ℕ) where
   -- behind the front of the run each start is one that is joined

@@ -20,8 +20,8 @@ use Rattle.kernel_model.specs.KernelRecord.ReadsLists.{ReadsLists}
 use Rattle.kernel_model.proofs.KernelRecord.OwnerCounts.{owned-blocks, owners-owned}
 use Rattle.kernel_calls.proofs.CallAnswers.FoundTask.{reads}
 use Rattle.kernel_calls.specs.BlockCalls.FreeStore.{with_taken}
-use Rattle.kernel_model.specs.WordKinds.ToldWords.{WasClaimed, WasReleased}
-use Rattle.kernel_calls.specs.BlockCalls.JoinedStarts.{joined_starts, rest_start}
+use Rattle.kernel_model.specs.WordKinds.Private.ToldWords.{WasClaimed, WasReleased}
+use Rattle.kernel_calls.specs.BlockCalls.Private.JoinedStarts.{joined_starts, rest_start}
 use Rattle.kernel_calls.proofs.BlockCalls.JoinedRuns.{rest-starts, run-starts}
 
 module _ (s : List ℕ) (l : Lists) (u : ℕ) (run : Run) (h : HoldsLists s l) (first : first_run (need u) (blocks_in s) ≡ Some run) where

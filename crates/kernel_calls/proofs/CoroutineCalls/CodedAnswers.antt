@@ -13,7 +13,7 @@ use Rattle.kernel_calls.specs.CallAnswers.Refusals.{answer_of, first_refusal}
 use Rattle.kernel_calls.specs.CoroutineCalls.CallCo.{idle_tests}
 use Rattle.kernel_calls.specs.CoroutineCalls.CallersCoroutines.{has_parent, is_one_of, is_within}
 use Rattle.kernel_calls.specs.CoroutineCalls.CoWait.{wait_tests}
-use Rattle.kernel_calls.specs.CoroutineCalls.Refusals.{code_of, coded}
+use Rattle.kernel_calls.specs.CoroutineCalls.Private.Refusals.{code_of, coded}
 use Rattle.kernel_calls.specs.CoroutineCalls.ResumeCo.{resume_tests}
 
 -- tests with the codes of their reasons

@@ -31,7 +31,7 @@ use Rattle.kernel_calls.specs.BlockCalls.Freevec.{has_packet_in}
 use Rattle.kernel_calls.specs.CoroutineCalls.CallCo.{idle_tests}
 use Rattle.kernel_calls.specs.CoroutineCalls.CallersCoroutines.{coroutines_of_caller}
 use Rattle.kernel_calls.specs.CoroutineCalls.DeleteCo.{IsRoomy, delete_tests, deleteco, with_deleted_at}
-use Rattle.kernel_calls.specs.CoroutineCalls.Refusals.{coded}
+use Rattle.kernel_calls.specs.CoroutineCalls.Private.Refusals.{coded}
 use Rattle.kernel_calls.proofs.CoroutineCalls.CallersTask.{callers-found, callers-held, callers-valid}
 use Rattle.kernel_calls.proofs.CoroutineCalls.CodedAnswers.{IsIdle, idle-coded, idle-passed}
 use Rattle.kernel_calls.proofs.CoroutineCalls.GoneCoroutine.{OneOf, deleted-changed, deleted-less, one-of, packet-none, packet-some}

@@ -33,7 +33,7 @@ use Rattle.kernel_calls.proofs.CallAnswers.Refusals.{answer_of-err, answer_of-ok
 use Rattle.kernel_calls.specs.CoroutineCalls.CallCo.{callco, idle_tests}
 use Rattle.kernel_calls.specs.CoroutineCalls.CallersCoroutines.{coroutines_of_caller, is_one_of, is_within, with_callers, with_changed}
 use Rattle.kernel_calls.specs.CoroutineCalls.CoWait.{IsWithin, cowait, ended, wait_tests, with_ended}
-use Rattle.kernel_calls.specs.CoroutineCalls.Refusals.{code_of, coded}
+use Rattle.kernel_calls.specs.CoroutineCalls.Private.Refusals.{code_of, coded}
 use Rattle.kernel_calls.specs.CoroutineCalls.ResumeCo.{resume_tests, resumeco, resumed_itself}
 use Rattle.kernel_calls.specs.CoroutineCalls.SwitchChange.{IsSwitched, SwitchChange, by_refusal, refused, entered, handed, switched, unless_refused}
 use Rattle.kernel_calls.proofs.CoroutineCalls.CallersTask.{AreRewritten, callers-found, callers-held, callers-rewritten, callers-valid}

@@ -27,7 +27,7 @@ use Rattle.kernel_calls.proofs.CallAnswers.GuestTask.{GuestFacts, guest-facts, g
 use Rattle.kernel_calls.specs.CallAnswers.Tasks.{is_dead}
 use Rattle.kernel_calls.specs.CallAnswers.Modules.{has_module}
 use Rattle.kernel_calls.specs.ModuleCalls.AddModule.{check_tests, globals_fit, has_module_room}
-use Rattle.kernel_calls.specs.ModuleCalls.ModuleFields.{IsTaskIn, further_count}
+use Rattle.kernel_calls.specs.ModuleCalls.Private.ModuleFields.{IsTaskIn, further_count}
 use Rattle.kernel_calls.proofs.ModuleCalls.ModuleUses.{each-inside, each-told, module-some}
 
 -- ---- the module's globals

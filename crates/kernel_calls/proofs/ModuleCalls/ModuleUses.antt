@@ -21,7 +21,7 @@ use Rattle.kernel_model.proofs.KernelRecord.WalkedLists.{tasks-read}
 use Rattle.kernel_calls.specs.CallAnswers.Refusals.{first_refusal}
 use Rattle.kernel_calls.proofs.CallAnswers.FoundTask.{reads}
 use Rattle.kernel_calls.specs.CallAnswers.Modules.{has_module}
-use Rattle.kernel_calls.specs.ModuleCalls.ModuleFields.{IsTaskIn, module_fields}
+use Rattle.kernel_calls.specs.ModuleCalls.Private.ModuleFields.{IsTaskIn, module_fields}
 use Rattle.kernel_calls.specs.ModuleCalls.UnloadModule.{is_in_use, use_tests}
 
 -- ---- modules

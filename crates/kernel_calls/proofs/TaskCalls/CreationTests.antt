@@ -26,7 +26,7 @@ use Rattle.kernel_calls.proofs.CallAnswers.Refusals.{first_refusal-failed, first
 use Rattle.kernel_calls.specs.BlockCalls.Getvec.{getvec_tests}
 use Rattle.kernel_calls.specs.TaskCalls.ChangePri.{priority_tests}
 use Rattle.kernel_calls.specs.TaskCalls.CreateTask.{MayCreate, create_task, creation_tests, free_id, has_high_globals, last_word_of, new_task, number_of, with_created}
-use Rattle.kernel_calls.specs.TaskCalls.NewTasks.{MayPlace, place_task}
+use Rattle.kernel_calls.specs.TaskCalls.Private.NewTasks.{MayPlace, place_task}
 use Rattle.kernel_calls.proofs.TaskCalls.ChangedPriority.{accepted-parts}
 
 -- a number that is found in a range lies in it

@@ -18,7 +18,7 @@ use Rattle.kernel_model.specs.KernelRecord.Changes.{AreUnowned}
 use Rattle.kernel_model.specs.KernelRecord.HoldsLists.{HoldsLists}
 use Rattle.kernel_model.specs.KernelRecord.Lists.{Lists}
 use Rattle.kernel_calls.proofs.CallAnswers.FoundTask.{reads}
-use Rattle.kernel_calls.specs.TaskCalls.NewTasks.{MaySetGlobals}
+use Rattle.kernel_calls.specs.TaskCalls.Private.NewTasks.{MaySetGlobals}
 use Rattle.kernel_calls.proofs.TaskCalls.PlainRows.{plain-set}
 
 -- ---- a module whose words are as they were

@@ -7,7 +7,7 @@ use Rattle.kernel_lists.specs.OwnedWords.LinkedWords.{first_of}
 use Rattle.kernel_lists.specs.TaskBlock.Versions.{head_words, most_modules}
 use Rattle.kernel_model.specs.KernelRecord.Task.{filled}
 use Rattle.kernel_model.proofs.KernelRecord.RootCounts.{length-filled}
-use Rattle.kernel_calls.specs.TaskCalls.NewTasks.{first_words, head_row}
+use Rattle.kernel_calls.specs.TaskCalls.Private.NewTasks.{first_words, head_row}
 use Rattle.kernel_calls.proofs.TaskCalls.RowsInRows.{set-row_behind, words-over_zeros}
 
 -- the versions have room for the modules in the task block

@@ -11,7 +11,7 @@ use Rattle.kernel_model.specs.KernelRecord.Task.{Task, filled, is_guest_id, othe
 use Rattle.kernel_model.specs.KernelRecord.Versions.{head_words_of}
 use Rattle.kernel_calls.specs.CallAnswers.Tasks.{no_coroutines}
 use Rattle.kernel_calls.specs.TaskCalls.CreateTask.{new_task}
-use Rattle.kernel_calls.specs.TaskCalls.NewTasks.{first_words, head_row}
+use Rattle.kernel_calls.specs.TaskCalls.Private.NewTasks.{first_words, head_row}
 use Rattle.kernel_lists.proofs.HunkLoader.ModuleExchanges.{row-append}
 
 module _ (s : List ℕ) (l : Lists) (number : ℕ) (modules : List ℕ) (u pri maker : ℕ) (guest : is_guest_id number ≡ true) where

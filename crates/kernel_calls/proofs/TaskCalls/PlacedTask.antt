@@ -58,7 +58,7 @@ use Rattle.kernel_calls.specs.BlockCalls.Getvec.{getvec, getvec_tests}
 use Rattle.kernel_model.proofs.WordKinds.OwnedMarks.{size-low}
 use Rattle.kernel_calls.proofs.BlockCalls.TakenStore.{HasTakenBlock}
 use Rattle.kernel_calls.specs.TaskCalls.CreateTask.{globals_row, last_word_of, new_task, row_behind, with_created}
-use Rattle.kernel_calls.specs.TaskCalls.NewTasks.{MayPlace, MaySetGlobals, head_row, place_task}
+use Rattle.kernel_calls.specs.TaskCalls.Private.NewTasks.{MayPlace, MaySetGlobals, head_row, place_task}
 use Rattle.kernel_calls.proofs.TaskCalls.ReadNumbers.{head-read, most-read}
 use Rattle.kernel_calls.proofs.TaskCalls.InsertedTask.{ComesNew, has-tasks, inserted-changed, may-come, new-count}
 use Rattle.kernel_calls.proofs.TaskCalls.ModuleGlobals.{all_globals-are, globals-same, has-modules}

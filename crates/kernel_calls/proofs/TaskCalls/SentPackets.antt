@@ -14,7 +14,7 @@ use Rattle.kernel_model.proofs.KernelRecord.EachMember.{all-both, holds-each}
 use Rattle.kernel_model.proofs.KernelRecord.WalkedLists.{residents-read}
 use Rattle.kernel_calls.proofs.CallAnswers.FoundTask.{reads}
 use Rattle.kernel_calls.specs.TaskCalls.DeleteTask.{has_packet_out, resident_packets}
-use Rattle.kernel_calls.specs.TaskCalls.PacketsOut.{is_sender_at, is_sender_of_read, is_sender_out, is_sender_to, is_sender_to_residents}
+use Rattle.kernel_calls.specs.TaskCalls.Private.PacketsOut.{is_sender_at, is_sender_of_read, is_sender_out, is_sender_to, is_sender_to_residents}
 use Rattle.std.proofs.Math.Bool.{or_assoc}
 
 module _ (s : List ℕ) (id : ℕ) where

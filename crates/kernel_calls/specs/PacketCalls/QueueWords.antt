@@ -11,7 +11,7 @@ use Rattle.kernel_model.specs.KernelRecord.Residents.{pending_head}
 use Rattle.kernel_model.specs.KernelRecord.Task.{queue_head}
 use Rattle.kernel_calls.specs.declared.packet_calls.queues.Queue.{Queue}
 use Rattle.kernel_calls.specs.declared.packet_calls.queues.Queue.TheVariants.{Clock, Keyboard, Output, Pending, Work}
-use Rattle.kernel_model.specs.KernelDispatch.DispatchWords.{state_of}
+use Rattle.kernel_model.specs.KernelDispatch.Private.DispatchWords.{state_of}
 
 -- the word that leads to its first packet
 abbrev pub head_of : Queue → ℕ

@@ -5,8 +5,8 @@ ghost use Rattle.kernel_lists.specs.GetvecChain.Tiling.{IsTiledFrom, blocks_from
 ghost use Rattle.kernel_model.specs.KernelRecord.ChangedStore.{HasKeeper, Knows};
 ghost use Rattle.kernel_model.specs.KernelRecord.Lists.{Lists};
 ghost use Rattle.kernel_calls.specs.BlockCalls.FreeStore.{with_taken};
-ghost use Rattle.kernel_model.specs.WordKinds.ToldWords.{WasClaimed, WasReleased};
-ghost use Rattle.kernel_calls.specs.BlockCalls.JoinedStarts.{is_joined, joined_start, joined_starts, rest_start};
+ghost use Rattle.kernel_model.specs.WordKinds.Private.ToldWords.{WasClaimed, WasReleased};
+ghost use Rattle.kernel_calls.specs.BlockCalls.Private.JoinedStarts.{is_joined, joined_start, joined_starts, rest_start};
 
 use crate::call_answers::codes::NO_ROOM;
 use kernel_lists::{Block, Run, blocks_from, first_run};

@@ -1,6 +1,6 @@
 // A refusal of a call on coroutines, with its code.
 ghost use Rattle.std.specs.Prelude.{◌≡◌};
-ghost use Rattle.kernel_calls.specs.CoroutineCalls.Refusals.{code_of, coded};
+ghost use Rattle.kernel_calls.specs.CoroutineCalls.Private.Refusals.{code_of, coded};
 
 use crate::call_answers::codes::{HAS_PARENT, NO_COROUTINE, NO_PARENT};
 use kernel_lists::CoEnd;

@@ -1,15 +1,16 @@
 // A task gets one more module.
-ghost use Rattle.std.specs.Prelude.{◌≡◌, ◌≤◌, ◌+◌, ◌-◌, ◌%◌, ◌==◌, ℕ, length};
+ghost use Rattle.std.specs.Prelude.{◌≡◌, ◌≤◌, ◌+◌, ◌==◌, ℕ, length};
 ghost use Rattle.kernel_lists.specs.TaskBlock.Versions.{head_words};
 ghost use Rattle.kernel_lists.specs.declared.task_block.fields.TcbField.TheVariants.{State};
 ghost use Rattle.kernel_model.specs.KernelRecord.HoldsLists.{HoldsLists};
 ghost use Rattle.kernel_model.specs.KernelRecord.Lists.{Lists};
 ghost use Rattle.kernel_model.specs.KernelRecord.Recovered.{field_in};
+ghost use Rattle.kernel_model.specs.KernelRecord.Task.{field_of_state};
 ghost use Rattle.kernel_model.specs.KernelRecord.ValidTasks.{dead};
 ghost use Rattle.kernel_calls.specs.CallAnswers.Guests.{GuestAt};
 ghost use Rattle.kernel_calls.specs.CallAnswers.CallChange.{IsMade};
 ghost use Rattle.kernel_calls.specs.ModuleCalls.AddModule.{IsCounted, add_module};
-ghost use Rattle.kernel_calls.specs.ModuleCalls.ModuleFields.{further_count};
+ghost use Rattle.kernel_calls.specs.ModuleCalls.Private.ModuleFields.{further_count};
 ghost use Rattle.kernel_model.specs.KernelRecord.ChangedStore.{HasKeeper};
 
 use crate::call_answers::codes::{
@@ -20,7 +21,7 @@ use kernel_lists::{
     TcbField, field, globals_fit, init_globals, module_at, most_modules, set_module_at,
 };
 use kernel_model::numbers::{DEAD, GLOBAL_WORDS};
-use kernel_model::{KindKeeper, are_unowned};
+use kernel_model::{KindKeeper, are_unowned, field_of_state};
 use word_store::Store;
 
 /// Gives the dead task with the number the module at m as its last one, and sets the module's globals in those of the task.
@@ -70,10 +71,9 @@ fn check_addition(store: &Store, task: u32, m: u32) -> Result<u32, u32>
 
 // Whether the task is dead: its state without the bits that say that packets wait and that it is held.
 fn is_dead(store: &Store, task: u32) -> bool
-    ensures { result ≡ (field_in store.now task State - field_in store.now task State % 4 == dead) }
+    ensures { result ≡ (field_of_state (field_in store.now task State) == dead) }
 {
-    let state = field(store, task, TcbField::State);
-    state - state % 4 == DEAD
+    field_of_state(field(store, task, TcbField::State)) == DEAD
 }
 
 // The number of a guest's modules, of which it has one at least.

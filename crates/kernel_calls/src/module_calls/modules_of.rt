@@ -6,7 +6,7 @@ ghost use Rattle.kernel_lists.specs.LinkedList.Walk.{CanWalk};
 ghost use Rattle.kernel_lists.specs.TaskBlock.RootWords.{first_task};
 ghost use Rattle.kernel_lists.specs.TaskBlock.TaskChain.{task_link, tasks_in};
 ghost use Rattle.kernel_lists.specs.TaskBlock.Versions.{head_words};
-ghost use Rattle.kernel_calls.specs.ModuleCalls.ModuleFields.{IsTaskIn, module_fields};
+ghost use Rattle.kernel_calls.specs.ModuleCalls.Private.ModuleFields.{IsTaskIn, module_fields};
 
 use kernel_lists::{FIRST_GUEST, TcbField, field, module_at, most_modules, tasks};
 use word_store::Store;

@@ -9,7 +9,7 @@ ghost use Rattle.kernel_lists.specs.TaskBlock.Versions.{head_words, most_modules
 ghost use Rattle.word_store.specs.Row.{with_words};
 ghost use Rattle.kernel_calls.specs.CallAnswers.CallChange.{IsMade};
 ghost use Rattle.kernel_calls.specs.TaskCalls.CreateTask.{new_task};
-ghost use Rattle.kernel_calls.specs.TaskCalls.NewTasks.{IsLastWord, MayPlace, MaySetGlobals, head_row, place_task};
+ghost use Rattle.kernel_calls.specs.TaskCalls.Private.NewTasks.{IsLastWord, MayPlace, MaySetGlobals, head_row, place_task};
 ghost use Rattle.kernel_model.specs.KernelRecord.ChangedStore.{HasKeeper};
 
 use crate::block_calls::getvec;

@@ -8,7 +8,7 @@ ghost use Rattle.kernel_lists.specs.TaskBlock.TaskChain.{task_link, tasks_in};
 ghost use Rattle.kernel_model.specs.KernelRecord.KernelRanges.{CanWalkLists, CanWalkTask, has_residents};
 ghost use Rattle.kernel_model.specs.KernelRecord.Owned.{clock_head, keyboard_head, output_head};
 ghost use Rattle.kernel_model.specs.KernelRecord.Residents.{pending_head};
-ghost use Rattle.kernel_calls.specs.TaskCalls.PacketsOut.{is_sender_at, is_sender_at_device, is_sender_of_read, is_sender_out, is_sender_to, is_sender_to_residents};
+ghost use Rattle.kernel_calls.specs.TaskCalls.Private.PacketsOut.{is_sender_at, is_sender_at_device, is_sender_of_read, is_sender_out, is_sender_to, is_sender_to_residents};
 
 use kernel_lists::{FIRST_GUEST, RootField, TcbField, field, packets, root, tasks};
 use kernel_model::numbers::{PENDING_HEAD, SENDER};

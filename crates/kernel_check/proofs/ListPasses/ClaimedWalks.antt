@@ -22,7 +22,7 @@ use Rattle.store_claims.proofs.ListClaims.ListAnswers.{task-size}
 use Rattle.store_claims.proofs.AdoptionLaw.BlockData.{lies-in-data}
 use Rattle.store_claims.proofs.AdoptionLaw.ClaimableStore.{counted}
 use Rattle.kernel_check.specs.ListPasses.ClaimedStore.{IsClaimed}
-use Rattle.kernel_check.specs.ListPasses.CanPass.{CanPass}
+use Rattle.kernel_check.specs.ListPasses.Private.CanPass.{CanPass}
 
 -- ---- nodes whose words lie in the store
 

@@ -20,7 +20,7 @@ use Rattle.store_claims.specs.WordClaims.Marks.{AreClaimed, AreOpen, IsSet, is_o
 use Rattle.store_claims.proofs.WordClaims.ClaimedWords.{open-low}
 use Rattle.store_claims.specs.ListClaims.ListWords.{Claimable}
 use Rattle.kernel_check.specs.ListPasses.StartMarks.{IsShut, OpensMembers}
-use Rattle.kernel_check.specs.ListPasses.CanPass.{CanPass}
+use Rattle.kernel_check.specs.ListPasses.Private.CanPass.{CanPass}
 use Rattle.kernel_check.specs.ListPasses.Frames.{TellsParent}
 use Rattle.kernel_check.proofs.ListPasses.ClaimedWalks.{of-map}
 use Rattle.store_claims.proofs.AdoptionLaw.WordCounts.{map-coroutines}

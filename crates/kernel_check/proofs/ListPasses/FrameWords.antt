@@ -19,7 +19,7 @@ use Rattle.kernel_lists.specs.Coroutines.HeldCoroutines.{address_of, coroutine_w
 use Rattle.kernel_lists.specs.Coroutines.CoroutineWords.{current_cell}
 use Rattle.kernel_model.specs.KernelRecord.BlockUse.{coroutine_addresses}
 use Rattle.kernel_model.specs.KernelRecord.Recovered.{coroutine_in, coroutines_of, task_in}
-use Rattle.kernel_check.specs.ListPasses.CanPass.{CanPass}
+use Rattle.kernel_check.specs.ListPasses.Private.CanPass.{CanPass}
 use Rattle.kernel_check.specs.ListPasses.Frames.{HasFrame, HasParent, OwnsCoroutines, TellsParent}
 use Rattle.kernel_check.proofs.ListPasses.CoroutineWalks.{members-read}
 use Rattle.store_claims.proofs.ListClaims.OutwardWalk.{goes, ends}

@@ -11,8 +11,8 @@ use Rattle.kernel_lists.specs.TaskBlock.Versions.{head_words}
 use Rattle.kernel_model.specs.KernelRecord.Recovered.{lists_in, task_in}
 use Rattle.kernel_model.specs.KernelRecord.Task.{fault_words, filled, is_guest_id}
 use Rattle.kernel_model.specs.KernelRecord.Versions.{head_words_of}
-use Rattle.kernel_check.specs.ListPasses.CanPass.{CanPass}
-use Rattle.kernel_check.specs.ListPasses.TaskRules.{HasWord, IsDense}
+use Rattle.kernel_check.specs.ListPasses.Private.CanPass.{CanPass}
+use Rattle.kernel_check.specs.ListPasses.Private.TaskRules.{HasWord, IsDense}
 use Rattle.kernel_check.proofs.ListPasses.GuestWords.{filter-some, head-is}
 use Rattle.kernel_check.proofs.ListPasses.HeadWords.{first-some, skip-first}
 use Rattle.kernel_model.proofs.KernelRecord.RootCounts.{length-filled}

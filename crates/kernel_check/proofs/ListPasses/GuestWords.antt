@@ -24,8 +24,8 @@ use Rattle.store_claims.specs.WordClaims.Marks.{is_open}
 use Rattle.store_claims.proofs.WordClaims.ClaimedWords.{open-low}
 use Rattle.kernel_check.specs.ListPasses.ClaimedStore.{IsClaimed}
 use Rattle.kernel_check.specs.ListPasses.StartMarks.{OpensMembers}
-use Rattle.kernel_check.specs.ListPasses.CanPass.{CanPass}
-use Rattle.kernel_check.specs.ListPasses.TaskRules.{AreNamed, HasModules, HasWord, IsIdle}
+use Rattle.kernel_check.specs.ListPasses.Private.CanPass.{CanPass}
+use Rattle.kernel_check.specs.ListPasses.Private.TaskRules.{AreNamed, HasModules, HasWord, IsIdle}
 use Rattle.kernel_check.proofs.ListPasses.CoroutineWalks.{the-blocks}
 
 -- ---- words that are not 0

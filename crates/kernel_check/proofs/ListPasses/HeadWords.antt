@@ -13,8 +13,8 @@ use Rattle.kernel_lists.specs.TaskBlock.Versions.{head_words}
 use Rattle.kernel_model.specs.KernelRecord.Recovered.{lists_in, packet_in, task_in}
 use Rattle.kernel_model.specs.KernelRecord.Task.{globals_of, is_guest_id, queue_bit, queue_head, stack_of, state_words}
 use Rattle.kernel_model.specs.KernelRecord.Versions.{head_words_of}
-use Rattle.kernel_check.specs.ListPasses.CanPass.{CanPass}
-use Rattle.kernel_check.specs.ListPasses.TaskRules.{HasWord}
+use Rattle.kernel_check.specs.ListPasses.Private.CanPass.{CanPass}
+use Rattle.kernel_check.specs.ListPasses.Private.TaskRules.{HasWord}
 use Rattle.kernel_check.proofs.ListPasses.GuestWords.{filter-some, head-is}
 
 -- ---- the bit of the queue

@@ -12,7 +12,7 @@ use Rattle.kernel_model.specs.KernelRecord.Task.{filled}
 use Rattle.kernel_model.specs.KernelRecord.Versions.{highest_id_of}
 use Rattle.kernel_model.proofs.KernelRecord.RootCounts.{RootWords, root-held}
 use Rattle.store_claims.specs.AdoptionLaw.Passes.{IsValidRoot}
-use Rattle.kernel_check.specs.ListPasses.RootRules.{HasRootWords, NumbersMayBe}
+use Rattle.kernel_check.specs.ListPasses.Private.RootRules.{HasRootWords, NumbersMayBe}
 
 -- ---- rows of zeros
 

@@ -15,7 +15,7 @@ use Rattle.kernel_model.specs.KernelRecord.Recovered.{lists_in, task_in}
 use Rattle.kernel_model.specs.KernelRecord.Task.{Task, is_guest_id, task_id}
 use Rattle.kernel_model.specs.KernelRecord.ValidTasks.{AreValidTasks, IsField, IsGuest, IsResident, IsTask, PrioritiesFall, resident_place}
 use Rattle.kernel_model.specs.KernelRecord.Versions.{highest_id_of}
-use Rattle.kernel_check.specs.ListPasses.TaskRules.{HasTaskNumbers, HasResidents}
+use Rattle.kernel_check.specs.ListPasses.Private.TaskRules.{HasTaskNumbers, HasResidents}
 use Rattle.kernel_model.proofs.KernelRecord.RootCounts.{highest-low, highest-high}
 
 -- ---- priorities

@@ -12,7 +12,7 @@ ghost use Rattle.kernel_model.specs.KernelRecord.ValidTasks.{IsCoroutine};
 ghost use Rattle.store_claims.specs.WordClaims.Marks.{is_open};
 ghost use Rattle.kernel_check.specs.ListPasses.ClaimedStore.{IsClaimed};
 ghost use Rattle.kernel_check.specs.ListPasses.StartMarks.{IsShut, OpensMembers, OpensStarts};
-ghost use Rattle.kernel_check.specs.ListPasses.CanPass.{CanPass};
+ghost use Rattle.kernel_check.specs.ListPasses.Private.CanPass.{CanPass};
 ghost use Rattle.kernel_check.specs.ListPasses.Frames.{OwnsCoroutines, TellsParent};
 
 use crate::list_passes::starts::has_block;

@@ -5,7 +5,7 @@ ghost use Rattle.kernel_lists.specs.OwnedWords.Owned.{Holds};
 ghost use Rattle.kernel_lists.specs.TaskBlock.Lists.{coroutines_in};
 ghost use Rattle.kernel_lists.specs.Coroutines.CoroutineExchanges.{words_of_coroutines};
 ghost use Rattle.kernel_model.specs.KernelRecord.Recovered.{coroutines_of};
-ghost use Rattle.kernel_check.specs.ListPasses.CanPass.{CanPass};
+ghost use Rattle.kernel_check.specs.ListPasses.Private.CanPass.{CanPass};
 ghost use Rattle.kernel_check.specs.ListPasses.Frames.{HasFrame, HasParent};
 
 use kernel_lists::{TcbField, coroutine_list, field};

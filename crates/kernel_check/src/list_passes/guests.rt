@@ -7,8 +7,8 @@ ghost use Rattle.kernel_model.specs.KernelRecord.Task.{is_guest_id};
 ghost use Rattle.kernel_model.specs.KernelRecord.ValidTasks.{IsFaultWord, IsGuest, IsResident, resident_place};
 ghost use Rattle.kernel_check.specs.ListPasses.ClaimedStore.{IsClaimed};
 ghost use Rattle.kernel_check.specs.ListPasses.StartMarks.{OpensMembers, OpensStarts};
-ghost use Rattle.kernel_check.specs.ListPasses.CanPass.{CanPass};
-ghost use Rattle.kernel_check.specs.ListPasses.TaskRules.{AreNamed, HasModules, HasWord, IsIdle};
+ghost use Rattle.kernel_check.specs.ListPasses.Private.CanPass.{CanPass};
+ghost use Rattle.kernel_check.specs.ListPasses.Private.TaskRules.{AreNamed, HasModules, HasWord, IsIdle};
 
 use crate::list_passes::resident_pass::has_task;
 use crate::list_passes::starts::has_block;

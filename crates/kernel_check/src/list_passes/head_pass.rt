@@ -8,9 +8,9 @@ ghost use Rattle.kernel_model.specs.KernelRecord.Task.{fault_words, globals_of, 
 ghost use Rattle.std.specs.List.{AllByRecursion};
 ghost use Rattle.store_claims.specs.AdoptionLaw.Passes.{HoldsTaskWords};
 ghost use Rattle.kernel_check.specs.ListPasses.ClaimedStore.{IsClaimed};
-ghost use Rattle.kernel_check.specs.ListPasses.CanPass.{CanPass};
+ghost use Rattle.kernel_check.specs.ListPasses.Private.CanPass.{CanPass};
 ghost use Rattle.kernel_check.specs.ListPasses.Frames.{OwnsCoroutines};
-ghost use Rattle.kernel_check.specs.ListPasses.TaskRules.{IsDense};
+ghost use Rattle.kernel_check.specs.ListPasses.Private.TaskRules.{IsDense};
 
 use crate::list_passes::frames::holds_frames;
 use crate::list_passes::guests::has_word;

@@ -7,7 +7,7 @@ ghost use Rattle.kernel_model.specs.KernelRecord.Residents.{fault_packet_words, 
 ghost use Rattle.kernel_model.specs.KernelRecord.ValidBlocks.{HasBlock, last_resident_word};
 ghost use Rattle.kernel_check.specs.ListPasses.ClaimedStore.{IsClaimed};
 ghost use Rattle.kernel_check.specs.ListPasses.StartMarks.{OpensStarts};
-ghost use Rattle.kernel_check.specs.ListPasses.FreePackets.{HasFaultWords, HasKeyWords};
+ghost use Rattle.kernel_check.specs.ListPasses.Private.FreePackets.{HasFaultWords, HasKeyWords};
 
 use crate::list_passes::starts::has_block;
 use kernel_lists::{NO_QUEUE, RootField, root};

@@ -2,7 +2,7 @@
 ghost use Rattle.std.specs.Prelude.{◌≡◌, ◌↔◌, ◌+◌, ◌<◌, ◌≤◌, ℕ, IsTrue, slice_index};
 ghost use Rattle.kernel_model.specs.KernelRecord.Versions.{highest_id_of};
 ghost use Rattle.store_claims.specs.AdoptionLaw.Passes.{IsValidRoot};
-ghost use Rattle.kernel_check.specs.ListPasses.RootRules.{HasRootWords, NumbersMayBe};
+ghost use Rattle.kernel_check.specs.ListPasses.Private.RootRules.{HasRootWords, NumbersMayBe};
 
 use kernel_lists::{RootField, root};
 use word_store::{Store, word};

@@ -9,8 +9,8 @@ ghost use Rattle.kernel_model.specs.KernelRecord.Task.{task_id};
 ghost use Rattle.kernel_model.specs.KernelRecord.ValidTasks.{AreValidTasks, IsTask, PrioritiesFall};
 ghost use Rattle.kernel_check.specs.ListPasses.ClaimedStore.{IsClaimed};
 ghost use Rattle.kernel_check.specs.ListPasses.StartMarks.{OpensMembers, OpensStarts};
-ghost use Rattle.kernel_check.specs.ListPasses.CanPass.{CanPass};
-ghost use Rattle.kernel_check.specs.ListPasses.TaskRules.{HasTaskNumbers, HasResidents};
+ghost use Rattle.kernel_check.specs.ListPasses.Private.CanPass.{CanPass};
+ghost use Rattle.kernel_check.specs.ListPasses.Private.TaskRules.{HasTaskNumbers, HasResidents};
 
 use crate::list_passes::guests::{is_valid_guest, is_valid_resident};
 use crate::list_passes::resident_pass::{has_residents, has_task};

@@ -9,7 +9,7 @@ use Rattle.module_text.specs.ReadingOn.{Reads, read}
 use Rattle.module_text.specs.declared.tokens.NextWord.{NextWord}
 use Rattle.module_text.proofs.ReadingOn.{reads_on}
 use Rattle.word_store.specs.Row.{with_words}
-use Rattle.kernel_lists.specs.HunkLoader.Follow.{WordsFollow}
+use Rattle.kernel_lists.specs.HunkLoader.Private.Follow.{WordsFollow}
 
 -- ---- a word is read
 

@@ -7,7 +7,7 @@ use Rattle.kernel_lists.specs.GetvecChain.Take.{IsTaken}
 use Rattle.kernel_lists.specs.GetvecChain.Tiling.{IsTiled}
 use Rattle.kernel_lists.proofs.GetvecChain.AfterTake.{after_take}
 use Rattle.kernel_lists.specs.TaskBlock.Lists.{modules_in}
-use Rattle.kernel_lists.specs.HunkLoader.Follow.{FitsAt}
+use Rattle.kernel_lists.specs.HunkLoader.Private.Follow.{FitsAt}
 use Rattle.kernel_lists.specs.HunkLoader.LoadOutcome.{IsLoaded}
 use Rattle.kernel_lists.specs.HunkLoader.ModuleRow.{last_word, module_row}
 use Rattle.kernel_lists.specs.HunkLoader.Modules.{HasModules}

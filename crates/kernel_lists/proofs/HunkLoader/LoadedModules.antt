@@ -10,7 +10,7 @@ use Rattle.module_text.specs.declared.modules.Hunk.{Hunk}
 use Rattle.kernel_lists.specs.declared.getvec_chain.pieces.Block.{Block}
 use Rattle.kernel_lists.specs.GetvecChain.Block.{block_end, used_block}
 use Rattle.kernel_lists.specs.LinkedList.Chain.{list_at}
-use Rattle.kernel_lists.specs.LinkedList.Changed.{InsertedAt}
+use Rattle.kernel_lists.proofs.LinkedList.Changed.{InsertedAt}
 use Rattle.word_store.specs.Count.{IsApart, node_words, times, words_of}
 use Rattle.kernel_lists.specs.LinkedList.Linked.{IsFresh, IsListAt}
 use Rattle.kernel_lists.specs.LinkedList.Places.{linked_in}

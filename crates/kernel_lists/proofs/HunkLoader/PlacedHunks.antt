@@ -14,7 +14,7 @@ use Rattle.module_text.specs.declared.tokens.NextWord.{NextWord}
 use Rattle.module_text.proofs.ReadingOn.{reads_all}
 use Rattle.word_store.specs.Row.{with_words}
 use Rattle.word_store.proofs.Rows.{length-with_words, with_words-apart, with_words-append, with_words-set_outside}
-use Rattle.kernel_lists.specs.HunkLoader.Follow.{AreInside, BeginsOther, FitsAt, HunkFollows, ListsFollow, WordsFollow, places}
+use Rattle.kernel_lists.specs.HunkLoader.Private.Follow.{AreInside, BeginsOther, FitsAt, HunkFollows, ListsFollow, WordsFollow, places}
 use Rattle.kernel_lists.specs.HunkLoader.ModuleRow.{hunks_image, lengths_of}
 use Rattle.kernel_lists.specs.HunkLoader.RelocatedWords.{relocated}
 use Rattle.kernel_lists.proofs.HunkLoader.CopiedWords.{some_word, was_read}

@@ -11,7 +11,7 @@ use Rattle.module_text.specs.declared.tokens.NextWord.{NextWord}
 use Rattle.module_text.proofs.Complete.{all_back, all_front}
 use Rattle.word_store.specs.Row.{with_words}
 use Rattle.word_store.proofs.Rows.{get_or-with_words, set-with_words}
-use Rattle.kernel_lists.specs.HunkLoader.Follow.{AreInside, BeginsOther, ListsFollow, OffsetsFollow, places}
+use Rattle.kernel_lists.specs.HunkLoader.Private.Follow.{AreInside, BeginsOther, ListsFollow, OffsetsFollow, places}
 use Rattle.kernel_lists.specs.HunkLoader.RelocatedWords.{relocated}
 use Rattle.kernel_lists.proofs.HunkLoader.CopiedWords.{some_word, was_read}
 

@@ -4,7 +4,7 @@ use Rattle.word_store.specs.Count.{IsApart, node_words, times}
 use Rattle.kernel_lists.specs.LinkedList.Chain.{IsChain, cells, last_cell}
 use Rattle.kernel_lists.specs.LinkedList.Linked.{IsFresh, IsLinked, IsNode}
 use Rattle.kernel_lists.specs.LinkedList.Places.{linked_in}
-use Rattle.kernel_lists.specs.LinkedList.Changed.{InsertedAt}
+use Rattle.kernel_lists.proofs.LinkedList.Changed.{InsertedAt}
 use Rattle.word_store.proofs.Counts.{hit-same, times-words_more, times-words_of}
 use Rattle.kernel_lists.proofs.LinkedList.Chains.{IsChain-same, cells-apart, last_cell-inside, nodes-same, times-cells, times-link}
 use Rattle.word_store.proofs.Elements.{all-append, all-back, all-front}

@@ -4,7 +4,7 @@ use Rattle.word_store.specs.Count.{node_words, times}
 use Rattle.kernel_lists.specs.LinkedList.Chain.{last_cell, list_at}
 use Rattle.kernel_lists.specs.LinkedList.Linked.{IsListAt, HasList, IsFresh, IsLinked, IsNode}
 use Rattle.kernel_lists.specs.LinkedList.Places.{cell_after, cell_before, has, insert_after, linked_in, linked_out, without}
-use Rattle.kernel_lists.specs.LinkedList.Changed.{InsertedAt, RemovedAt}
+use Rattle.kernel_lists.proofs.LinkedList.Changed.{InsertedAt, RemovedAt}
 use Rattle.kernel_lists.proofs.LinkedList.Chains.{linked-found, list_at-is}
 use Rattle.kernel_lists.proofs.LinkedList.Insertion.{IsLinked-insert, fresh-cell, inserted}
 use Rattle.kernel_lists.proofs.LinkedList.Removal.{IsLinked-remove, cell-before-node, node-of, removed}

@@ -5,7 +5,7 @@ use Rattle.word_store.specs.Count.{IsApart, node_words, times, words_of}
 use Rattle.kernel_lists.specs.LinkedList.Chain.{IsChain, cells, last_cell}
 use Rattle.kernel_lists.specs.LinkedList.Linked.{IsLinked, IsNode}
 use Rattle.kernel_lists.specs.LinkedList.Places.{linked_out}
-use Rattle.kernel_lists.specs.LinkedList.Changed.{RemovedAt}
+use Rattle.kernel_lists.proofs.LinkedList.Changed.{RemovedAt}
 use Rattle.word_store.proofs.Counts.{hit-same, times-words_more, times-words_of}
 use Rattle.kernel_lists.proofs.LinkedList.Chains.{IsChain-same, cells-apart, last_cell-inside, nodes-same, times-cells}
 use Rattle.kernel_lists.proofs.LinkedList.Insertion.{front_cell-differs, times-front_cell}

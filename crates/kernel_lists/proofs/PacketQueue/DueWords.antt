@@ -3,7 +3,7 @@ use Rattle.std.proofs.Common.{◌≡◌, ℕ, ◌+◌, ◌<◌, List, [], ◌∷
 use Rattle.std.specs.List.{AllByRecursion}
 use Rattle.word_store.specs.Count.{times, words_of}
 use Rattle.kernel_lists.specs.LinkedList.Places.{insert_after, linked_in}
-use Rattle.kernel_lists.specs.LinkedList.Changed.{InsertedAt}
+use Rattle.kernel_lists.proofs.LinkedList.Changed.{InsertedAt}
 use Rattle.word_store.proofs.Counts.{hit-same, times-differ, times-within}
 use Rattle.kernel_lists.specs.PacketQueue.Queue.{CanQueue, HasQueue, link_of, packet_size, queue_at}
 use Rattle.kernel_lists.specs.PacketQueue.Due.{due_of, is_due, last_due_link, with_due}

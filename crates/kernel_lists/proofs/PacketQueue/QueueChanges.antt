@@ -4,7 +4,7 @@ use Rattle.std.proofs.lemmas.Bool.Decides.{nat_tests}
 use Rattle.word_store.specs.Count.{node_words, times}
 use Rattle.kernel_lists.specs.LinkedList.Chain.{IsChain, last_cell}
 use Rattle.kernel_lists.specs.LinkedList.Places.{cell_before, has, insert_after, linked_in, without}
-use Rattle.kernel_lists.specs.LinkedList.Changed.{InsertedAt}
+use Rattle.kernel_lists.proofs.LinkedList.Changed.{InsertedAt}
 use Rattle.word_store.proofs.Counts.{times-differ, times-within}
 use Rattle.kernel_lists.proofs.LinkedList.Lists.{list-append, list-appended, list-cell, list-cell_before, list-insert, list-inserted, list-remove, list-removed}
 use Rattle.kernel_lists.specs.LinkedList.Linked.{IsListAt}

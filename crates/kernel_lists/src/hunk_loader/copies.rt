@@ -3,7 +3,7 @@ ghost use Rattle.std.specs.Prelude.{◌≡◌, ℕ, List, IsSome, Some};
 ghost use Rattle.word_store.specs.Row.{with_words};
 ghost use Rattle.module_text.specs.Places.{next_word};
 ghost use Rattle.module_text.specs.ReadingOn.{Reads};
-ghost use Rattle.kernel_lists.specs.HunkLoader.Follow.{WordsFollow};
+ghost use Rattle.kernel_lists.specs.HunkLoader.Private.Follow.{WordsFollow};
 
 use module_text::{NextWord, TextBytes, next_word};
 use word_store::Store;

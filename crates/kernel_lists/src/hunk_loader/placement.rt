@@ -4,7 +4,7 @@ ghost use Rattle.word_store.specs.Row.{with_words};
 ghost use Rattle.module_text.specs.ReadingOn.{Reads};
 ghost use Rattle.module_text.specs.declared.modules.Hunk.{Hunk};
 ghost use Rattle.module_text.specs.declared.modules.Module.{Module};
-ghost use Rattle.kernel_lists.specs.HunkLoader.Follow.{FitsAt, HunkFollows};
+ghost use Rattle.kernel_lists.specs.HunkLoader.Private.Follow.{FitsAt, HunkFollows};
 ghost use Rattle.kernel_lists.specs.HunkLoader.ModuleRow.{hunks_image, lengths_of, module_row};
 ghost use Rattle.kernel_lists.specs.HunkLoader.RelocatedWords.{relocated};
 

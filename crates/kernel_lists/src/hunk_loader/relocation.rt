@@ -3,7 +3,7 @@ ghost use Rattle.std.specs.Prelude.{◌≡◌, ◌+◌, ◌<◌, ℕ, List, slic
 ghost use Rattle.std.specs.List.{concat};
 ghost use Rattle.word_store.specs.Arithmetic.{add};
 ghost use Rattle.module_text.specs.ReadingOn.{Reads};
-ghost use Rattle.kernel_lists.specs.HunkLoader.Follow.{AreInside, ListsFollow, OffsetsFollow, places};
+ghost use Rattle.kernel_lists.specs.HunkLoader.Private.Follow.{AreInside, ListsFollow, OffsetsFollow, places};
 ghost use Rattle.kernel_lists.specs.HunkLoader.RelocatedWords.{relocated};
 
 use crate::hunk_loader::copies::read_word;

@@ -13,7 +13,7 @@ use Rattle.kernel_machine.specs.declared.running_machine.parts.Parts.{Parts}
 use Rattle.kernel_machine.specs.RunningMachine.RepresentedKernels.{RepresentsKernel}
 use Rattle.kernel_machine.specs.KernelSteps.Stepped.{Stepped, and_then, quietly, with_store}
 use Rattle.kernel_machine.proofs.KernelSteps.StoredWords.{image-stored, plain-stored}
-use Rattle.kernel_machine.specs.RunningMachine.Leaves.{Leaves}
+use Rattle.kernel_machine.specs.RunningMachine.Private.Leaves.{Leaves}
 
 -- nothing was done
 pub leaves-none : (p : Parts) (o : Outside) (k : Kernel) → RepresentsKernel p k → Leaves p o o (quietly k)

@@ -10,7 +10,7 @@ use Rattle.kernel_machine.specs.KernelSteps.Parts.{IsTaken}
 use Rattle.kernel_machine.specs.KernelSteps.Step.{run, step}
 use Rattle.kernel_machine.specs.KernelSteps.Stepped.{Stepped, quietly}
 use Rattle.kernel_machine.proofs.KernelSteps.StepKept.{step-left}
-use Rattle.kernel_machine.specs.RunningMachine.Leaves.{Leaves}
+use Rattle.kernel_machine.specs.RunningMachine.Private.Leaves.{Leaves}
 use Rattle.kernel_machine.specs.RunningMachine.Machine.{IsWhole, kernel_of}
 use Rattle.kernel_machine.specs.RunningMachine.Runs.{HasPassed}
 use Rattle.kernel_machine.proofs.RunningMachine.OneMachine.{one-machine, stop-of, whole}

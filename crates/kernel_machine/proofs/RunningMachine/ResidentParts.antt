@@ -41,7 +41,7 @@ use Rattle.kernel_machine.proofs.KernelSteps.ReportedRuns.{report-runs}
 use Rattle.kernel_machine.proofs.KernelSteps.RunningCaller.{runs-alone, runs-resident}
 use Rattle.kernel_machine.proofs.KernelSteps.TurnKept.{console-turned}
 use Rattle.kernel_machine.proofs.KernelSteps.TurnRules.{runs-shell as shell-runs}
-use Rattle.kernel_machine.specs.RunningMachine.Leaves.{Leaves, RunsNumber}
+use Rattle.kernel_machine.specs.RunningMachine.Private.Leaves.{Leaves, RunsNumber}
 use Rattle.kernel_machine.proofs.RunningMachine.LeftParts.{represents-changed}
 
 -- a turn leaves this of the store and the keeper, and nothing else of the parts

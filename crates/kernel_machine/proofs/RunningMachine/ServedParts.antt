@@ -27,7 +27,7 @@ use Rattle.kernel_machine.specs.KernelSteps.Step.{dispatch, key, output, served,
 use Rattle.kernel_machine.specs.KernelSteps.Stepped.{quietly, with_store}
 use Rattle.kernel_machine.proofs.KernelSteps.DevicesKept.{key-numbers, output-numbers, tick-numbers}
 use Rattle.kernel_machine.proofs.KernelSteps.DispatchKept.{dispatch-numbers}
-use Rattle.kernel_machine.specs.RunningMachine.Leaves.{CanServe, Leaves}
+use Rattle.kernel_machine.specs.RunningMachine.Private.Leaves.{CanServe, Leaves}
 use Rattle.kernel_machine.proofs.RunningMachine.LeftParts.{leaves-none, represents-changed}
 
 -- the parts stand for the kernel with these lists, whose plain words were written over those of the image

@@ -17,7 +17,7 @@ use Rattle.kernel_machine.specs.KernelSteps.Stepped.{and_then, quietly}
 use Rattle.kernel_machine.proofs.KernelSteps.DevicesKept.{key-dispatch, key-stop, output-dispatch, output-stop, tick-dispatch, tick-stop}
 use Rattle.kernel_machine.proofs.KernelSteps.StepKept.{step-turns}
 use Rattle.kernel_machine.proofs.KernelSteps.TurnKept.{numbers-turn, turn-dispatch}
-use Rattle.kernel_machine.specs.RunningMachine.Leaves.{CanServe}
+use Rattle.kernel_machine.specs.RunningMachine.Private.Leaves.{CanServe}
 use Rattle.kernel_machine.proofs.KernelSteps.QuietSteps.{step-goes}
 
 -- a dispatch may follow on each of the devices

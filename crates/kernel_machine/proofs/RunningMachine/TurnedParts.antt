@@ -27,7 +27,7 @@ use Rattle.kernel_machine.proofs.KernelSteps.RunningCaller.{runs-alone, runs-cal
 use Rattle.kernel_machine.proofs.KernelSteps.TurnKept.{recorded-numbers}
 use Rattle.kernel_machine.proofs.KernelSteps.TurnRules.{recordable}
 use Rattle.kernel_machine.proofs.KernelSteps.TurnWays.{IsRecorded}
-use Rattle.kernel_machine.specs.RunningMachine.Leaves.{Leaves, RunsGuest}
+use Rattle.kernel_machine.specs.RunningMachine.Private.Leaves.{Leaves, RunsGuest}
 use Rattle.kernel_machine.proofs.RunningMachine.LeftParts.{represents-changed}
 
 -- where a turn does not end with a fault that is recorded

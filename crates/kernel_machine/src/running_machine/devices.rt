@@ -5,7 +5,7 @@ ghost use Rattle.kernel_model.specs.KernelDispatch.Dispatch.{CanDispatch};
 ghost use Rattle.kernel_calls.specs.CallAnswers.Outside.{outside};
 ghost use Rattle.kernel_machine.specs.RunningMachine.RepresentedKernels.{RepresentsKernel};
 ghost use Rattle.kernel_machine.specs.KernelSteps.Step.{dispatch, key, output, tick, with_key_typed};
-ghost use Rattle.kernel_machine.specs.RunningMachine.Leaves.{CanServe, Leaves};
+ghost use Rattle.kernel_machine.specs.RunningMachine.Private.Leaves.{CanServe, Leaves};
 
 use crate::running_machine::Parts;
 use byte_streams::Output;

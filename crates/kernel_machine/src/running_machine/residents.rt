@@ -8,7 +8,7 @@ ghost use Rattle.kernel_calls.specs.CallAnswers.Outside.{outside};
 ghost use Rattle.resident_tasks.specs.ResidentRequests.Requests.{RunsResident};
 ghost use Rattle.kernel_machine.specs.RunningMachine.RepresentedKernels.{RepresentsKernel};
 ghost use Rattle.kernel_machine.specs.KernelSteps.ResidentSteps.{console_step, handler_step, reporter_step, resident_step, serves_pipes, shell_step};
-ghost use Rattle.kernel_machine.specs.RunningMachine.Leaves.{Leaves, RunsNumber, RunsNoGuest};
+ghost use Rattle.kernel_machine.specs.RunningMachine.Private.Leaves.{Leaves, RunsNumber, RunsNoGuest};
 
 use crate::running_machine::Parts;
 use byte_streams::Output;

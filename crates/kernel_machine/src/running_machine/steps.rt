@@ -7,7 +7,7 @@ ghost use Rattle.kernel_calls.specs.CallAnswers.Outside.{outside};
 ghost use Rattle.kernel_machine.specs.RunningMachine.RepresentedKernels.{RepresentsKernel};
 ghost use Rattle.kernel_machine.specs.KernelSteps.Parts.{IsTaken};
 ghost use Rattle.kernel_machine.specs.KernelSteps.Step.{after_the_turn, step};
-ghost use Rattle.kernel_machine.specs.RunningMachine.Leaves.{CanServe, Leaves};
+ghost use Rattle.kernel_machine.specs.RunningMachine.Private.Leaves.{CanServe, Leaves};
 
 use crate::running_machine::Parts;
 use crate::running_machine::devices::{dispatch, key, output, tick};

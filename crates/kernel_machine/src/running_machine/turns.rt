@@ -9,7 +9,7 @@ ghost use Rattle.kernel_machine.specs.RunningMachine.RepresentedKernels.{Represe
 ghost use Rattle.kernel_machine.specs.KernelSteps.GuestSteps.{guest_step, is_recorded, stop_by};
 ghost use Rattle.kernel_machine.specs.KernelSteps.Parts.{CanTurn};
 ghost use Rattle.kernel_machine.specs.KernelSteps.Step.{turn};
-ghost use Rattle.kernel_machine.specs.RunningMachine.Leaves.{Leaves, RunsGuest};
+ghost use Rattle.kernel_machine.specs.RunningMachine.Private.Leaves.{Leaves, RunsGuest};
 
 use crate::running_machine::Parts;
 use crate::running_machine::residents::resident;

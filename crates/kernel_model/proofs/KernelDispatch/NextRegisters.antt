@@ -27,7 +27,7 @@ use Rattle.kernel_model.proofs.KernelRecord.ReadCoroutines.{HoldsTask, holds-tas
 use Rattle.kernel_model.proofs.KernelRecord.Reading.{read-lists}
 use Rattle.kernel_model.proofs.KernelRecord.TaskPlaces.{TaskPlace, task-places, task-some}
 use Rattle.kernel_model.specs.KernelDispatch.Dispatch.{entry_regs, guest_regs, packets_left, packets_taken, resumed_regs, suspended, unlinked_words, with_packet_taken}
-use Rattle.kernel_model.specs.KernelDispatch.DispatchWords.{entry_in, guest_regs_in, next_regs_in, running_in, saved_in}
+use Rattle.kernel_model.specs.KernelDispatch.Private.DispatchWords.{entry_in, guest_regs_in, next_regs_in, running_in, saved_in}
 use Rattle.kernel_model.specs.KernelDispatch.Turn.{HasTaken, IsNext}
 use Rattle.kernel_model.proofs.KernelDispatch.ResumedTask.{takes-suspended}
 use Rattle.kernel_model.proofs.KernelDispatch.SuspendedLists.{none-runs, running-held}

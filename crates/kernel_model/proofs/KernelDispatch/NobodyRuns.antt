@@ -23,7 +23,7 @@ use Rattle.kernel_model.proofs.KernelRecord.NotedInTurn.{notes-none}
 use Rattle.kernel_model.proofs.KernelRecord.RunningTask.{owners-running, running-valid, with_running}
 use Rattle.kernel_model.proofs.KernelRecord.TaskPlaces.{TaskPlace, task-places, task-some}
 use Rattle.kernel_model.specs.KernelDispatch.Dispatch.{CanDispatch, dispatched, first_ready_block, first_ready_task, goes_on, suspended, unchanged, with_next, with_nobody, with_suspended}
-use Rattle.kernel_model.specs.KernelDispatch.DispatchWords.{goes_on_in, running_in, state_of, with_running_saved}
+use Rattle.kernel_model.specs.KernelDispatch.Private.DispatchWords.{goes_on_in, running_in, state_of, with_running_saved}
 use Rattle.kernel_model.specs.KernelDispatch.Turn.{IsDispatched, IsNext}
 use Rattle.kernel_model.proofs.KernelDispatch.NextRegisters.{runs-told}
 use Rattle.kernel_model.proofs.KernelDispatch.ResumedTask.{first-suspended}

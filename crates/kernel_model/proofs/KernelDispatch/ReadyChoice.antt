@@ -12,7 +12,7 @@ use Rattle.kernel_model.specs.KernelRecord.Task.{task_address}
 use Rattle.kernel_model.proofs.KernelRecord.EachMember.{all-each}
 use Rattle.kernel_model.proofs.KernelRecord.Reading.{read-lists}
 use Rattle.kernel_model.specs.KernelDispatch.Dispatch.{first_ready_block}
-use Rattle.kernel_model.specs.KernelDispatch.DispatchWords.{is_ready_in}
+use Rattle.kernel_model.specs.KernelDispatch.Private.DispatchWords.{is_ready_in}
 use Rattle.kernel_model.proofs.KernelDispatch.TaskStates.{TellsTask, tells-tasks}
 
 -- the first address that passes a test is that of the first thing that does

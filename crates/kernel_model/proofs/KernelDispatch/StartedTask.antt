@@ -20,7 +20,7 @@ use Rattle.kernel_model.proofs.KernelRecord.ChangedLists.{changed-then, exchange
 use Rattle.kernel_model.proofs.KernelRecord.OneTask.{same_task-valid}
 use Rattle.kernel_model.proofs.KernelRecord.RunningTask.{owners-running, running-valid, with_running}
 use Rattle.kernel_model.specs.KernelDispatch.Dispatch.{started}
-use Rattle.kernel_model.specs.KernelDispatch.DispatchWords.{state_of, with_started}
+use Rattle.kernel_model.specs.KernelDispatch.Private.DispatchWords.{state_of, with_started}
 use Rattle.kernel_model.proofs.KernelDispatch.StateExchanges.{exchange-state, exchange-task}
 use Rattle.kernel_model.proofs.KernelDispatch.TaskStates.{by-field, tells-states}
 

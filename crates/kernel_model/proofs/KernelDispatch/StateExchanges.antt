@@ -8,7 +8,7 @@ use Rattle.kernel_lists.proofs.OwnedWords.Exchanges.{exchange-both, exchange-lef
 use Rattle.kernel_lists.specs.PacketQueue.QueueWords.{QueuedPacket, queue_words}
 use Rattle.kernel_lists.specs.Coroutines.CoroutineExchanges.{words_of_coroutines}
 use Rattle.kernel_model.specs.KernelRecord.Task.{Task, fault_words, globals_of, name_words, queue_head, stack_of, state_word, state_words, task_words}
-use Rattle.kernel_model.specs.KernelDispatch.DispatchWords.{saved_words}
+use Rattle.kernel_model.specs.KernelDispatch.Private.DispatchWords.{saved_words}
 
 -- the state and the saved registers of the words 4 to 16 of a task block
 module _ (a w5 w6 w7 w8 w9 w10 : ℕ) where

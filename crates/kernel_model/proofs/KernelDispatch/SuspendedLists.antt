@@ -21,7 +21,7 @@ use Rattle.kernel_model.proofs.KernelRecord.EachMember.{all-each}
 use Rattle.kernel_model.proofs.KernelRecord.OwnedParts.{holds-parts}
 use Rattle.kernel_model.proofs.KernelRecord.TaskPlaces.{TaskPlace, task-places, task-some}
 use Rattle.kernel_model.specs.KernelDispatch.Dispatch.{suspended, with_suspended}
-use Rattle.kernel_model.specs.KernelDispatch.DispatchWords.{running_in, with_running_saved, with_saved}
+use Rattle.kernel_model.specs.KernelDispatch.Private.DispatchWords.{running_in, with_running_saved, with_saved}
 use Rattle.kernel_model.proofs.KernelDispatch.SuspendedTask.{changed-suspended, owners-suspended}
 
 -- the word that names the running task

@@ -20,7 +20,7 @@ use Rattle.kernel_model.proofs.KernelRecord.AllThings.{all-here}
 use Rattle.kernel_model.proofs.KernelRecord.ChangedLists.{exchange-owned, one_task-owned, owners-exchanged}
 use Rattle.kernel_model.proofs.KernelRecord.OneTask.{same_task-valid}
 use Rattle.kernel_model.specs.KernelDispatch.Dispatch.{suspended}
-use Rattle.kernel_model.specs.KernelDispatch.DispatchWords.{saved_words, state_of, suspended_state, with_saved}
+use Rattle.kernel_model.specs.KernelDispatch.Private.DispatchWords.{saved_words, state_of, suspended_state, with_saved}
 use Rattle.kernel_model.proofs.KernelDispatch.StateExchanges.{exchange-suspended, exchange-task}
 use Rattle.kernel_model.proofs.KernelDispatch.TaskStates.{by-field, tells-states}
 

@@ -28,7 +28,7 @@ use Rattle.kernel_model.proofs.KernelRecord.ChangedLists.{exchange-changed, one_
 use Rattle.kernel_model.proofs.KernelRecord.PacketMoves.{unqueued-unowned, unqueued-valid}
 use Rattle.kernel_model.proofs.KernelRecord.QueueCounts.{owners-packet}
 use Rattle.kernel_model.proofs.KernelRecord.Reading.{read-lists}
-use Rattle.kernel_model.specs.KernelDispatch.DispatchWords.{state_of, taken_state, with_taken}
+use Rattle.kernel_model.specs.KernelDispatch.Private.DispatchWords.{state_of, taken_state, with_taken}
 use Rattle.kernel_model.proofs.KernelDispatch.StateExchanges.{exchange-state, exchange-task}
 use Rattle.kernel_model.proofs.KernelDispatch.TaskStates.{by-field, tells-states}
 

@@ -28,7 +28,7 @@ use Rattle.kernel_model.proofs.KernelRecord.Reading.{read-lists}
 use Rattle.kernel_model.specs.WordKinds.Keeper.{AreTogether}
 use Rattle.kernel_model.proofs.WordKinds.KnownWords.{knows-released}
 use Rattle.kernel_model.specs.KernelDispatch.Dispatch.{packets_left, packets_taken, taken_event, takes_packet, unlinked_words, with_packet_taken}
-use Rattle.kernel_model.specs.KernelDispatch.DispatchWords.{state_of, takes_packet_by, with_taken}
+use Rattle.kernel_model.specs.KernelDispatch.Private.DispatchWords.{state_of, takes_packet_by, with_taken}
 use Rattle.kernel_model.specs.KernelDispatch.Turn.{HasTaken, IsNext}
 use Rattle.kernel_model.proofs.KernelDispatch.TakenPacket.{changed-taken, others-stay, owners-taken, sender-stays}
 use Rattle.kernel_model.proofs.KernelDispatch.TaskStates.{TellsTask, by-field, tells-states, tells-tasks}

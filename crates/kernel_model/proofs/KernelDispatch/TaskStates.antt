@@ -13,7 +13,7 @@ use Rattle.kernel_model.proofs.KernelRecord.AllThings.{all-from_both}
 use Rattle.kernel_model.proofs.KernelRecord.EachMember.{all-both, holds-each}
 use Rattle.kernel_model.proofs.KernelRecord.ReadCoroutines.{HoldsTask, holds-task}
 use Rattle.kernel_model.proofs.KernelRecord.Reading.{read-lists}
-use Rattle.kernel_model.specs.KernelDispatch.DispatchWords.{is_ready_in, is_ready_state, state_of}
+use Rattle.kernel_model.specs.KernelDispatch.Private.DispatchWords.{is_ready_in, is_ready_state, state_of}
 
 -- what holds of the four fields
 pub by-field : (P : ℕ → Type 0) → P 0 → P 4 → P 8 → P 12 → (n : ℕ) → IsField n → P n

@@ -25,7 +25,7 @@ use Rattle.kernel_model.proofs.KernelRecord.ChangedLists.{changed-then, knows-sa
 use Rattle.kernel_model.proofs.KernelRecord.NotedInTurn.{notes-one, notes-then}
 use Rattle.kernel_model.proofs.KernelRecord.RunningTask.{with_running}
 use Rattle.kernel_model.specs.KernelDispatch.Dispatch.{CanDispatch, DispatchChange, dispatched, first_ready_task, goes_on, packets_taken, resumed, started, suspended, taken_event, unchanged, unlinked_words, with_next, with_packet_taken, with_resumed, with_suspended}
-use Rattle.kernel_model.specs.KernelDispatch.DispatchWords.{next_regs_in, with_running_saved, with_started}
+use Rattle.kernel_model.specs.KernelDispatch.Private.DispatchWords.{next_regs_in, with_running_saved, with_started}
 use Rattle.kernel_model.specs.KernelDispatch.Turn.{HasTaken, IsDispatched, IsNext}
 use Rattle.kernel_model.proofs.KernelDispatch.NextRegisters.{next-regs, own, same-work}
 use Rattle.kernel_model.proofs.KernelDispatch.ResumedTask.{all-changes, first-suspended}

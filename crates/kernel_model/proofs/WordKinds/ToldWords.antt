@@ -6,7 +6,7 @@ use Rattle.word_store.specs.Count.{IsApart, hit, times}
 use Rattle.kernel_lists.specs.LinkedList.Places.{without}
 use Rattle.word_store.proofs.Counts.{hit-same, times-append}
 use Rattle.kernel_model.specs.WordKinds.Keeper.{AreTogether}
-use Rattle.kernel_model.specs.WordKinds.ToldWords.{WasClaimed, WasReleased}
+use Rattle.kernel_model.specs.WordKinds.Private.ToldWords.{WasClaimed, WasReleased}
 
 -- ---- released
 

@@ -1,5 +1,5 @@
 -- The lists, read off a store.
-use Rattle.std.specs.Prelude.{ℕ, ◌+◌, ◌-◌, ◌%◌, ◌==◌, ◌&&◌, Bool, not, if◌then◌else◌, Option, Some, None, List, [], ◌∷◌, filter, map, slice_index, slice_range}
+use Rattle.std.specs.Prelude.{ℕ, ◌+◌, ◌==◌, ◌&&◌, Bool, not, if◌then◌else◌, Option, Some, None, List, [], ◌∷◌, filter, map, slice_index, slice_range}
 use Rattle.std.specs.List.{list_any}
 use Rattle.kernel_lists.specs.GetvecChain.Tiling.{blocks_in}
 use Rattle.kernel_lists.specs.HunkLoader.HeldModules.{LoadedModule}
@@ -20,7 +20,7 @@ use Rattle.kernel_lists.specs.Coroutines.HeldCoroutines.{Coroutine}
 use Rattle.kernel_model.specs.KernelRecord.Lists.{Lists}
 use Rattle.kernel_model.specs.KernelRecord.Owned.{clock_head, keyboard_head, output_head}
 use Rattle.kernel_model.specs.KernelRecord.Residents.{fault_packet, key_packet, pending_head}
-use Rattle.kernel_model.specs.KernelRecord.Task.{Task, is_guest_id, is_held_state, queue_head}
+use Rattle.kernel_model.specs.KernelRecord.Task.{Task, field_of_state, is_guest_id, is_held_state, queue_head}
 use Rattle.kernel_model.specs.KernelRecord.KernelRanges.{has_residents}
 
 -- a word of the root, by its address
@@ -83,7 +83,7 @@ task_in s t = record {
   maker = field_in s t Maker;
   modules = modules_of s t;
   highest = field_in s t StackTop;
-  field = field_in s t State - field_in s t State % 4;
+  field = field_of_state (field_in s t State);
   held = is_held_state (field_in s t State);
   fault = field_in s t Extra1;
   fault_address = field_in s t Extra2;

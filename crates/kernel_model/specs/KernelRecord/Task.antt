@@ -82,6 +82,10 @@ state_word t = t.field + queue_bit t.queue + (if t.held then 2 else 0)
 abbrev pub is_held_state : ℕ → Bool
 is_held_state w = w / 2 % 2 == 1
 
+-- the field of a state, without the two bits that say more of the task
+abbrev pub field_of_state : ℕ → ℕ
+field_of_state w = w - w % 4
+
 -- a row of so many words: those of the list, and then zeros
 abbrev pub filled : ℕ → List ℕ → List ℕ
 filled zero xs = []

@@ -6,7 +6,7 @@ ghost use Rattle.kernel_lists.specs.LinkedList.Walk.{CanWalk};
 ghost use Rattle.kernel_model.specs.KernelRecord.HoldsLists.{HoldsLists};
 ghost use Rattle.kernel_model.specs.KernelRecord.Lists.{Lists};
 ghost use Rattle.kernel_model.specs.KernelDispatch.Dispatch.{first_ready_block};
-ghost use Rattle.kernel_model.specs.KernelDispatch.DispatchWords.{is_ready_in, is_ready_state};
+ghost use Rattle.kernel_model.specs.KernelDispatch.Private.DispatchWords.{is_ready_in, is_ready_state};
 
 use crate::kernel_record::is_held_state;
 use kernel_lists::{TcbField, field, tasks};

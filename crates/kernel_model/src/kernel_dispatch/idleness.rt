@@ -1,7 +1,7 @@
 // Nobody runs.
 ghost use Rattle.std.specs.Prelude.{◌≡◌};
 ghost use Rattle.kernel_model.specs.KernelRecord.ValidTasks.{no_regs};
-ghost use Rattle.kernel_model.specs.KernelDispatch.DispatchWords.{idle_events, with_nobody_running};
+ghost use Rattle.kernel_model.specs.KernelDispatch.Private.DispatchWords.{idle_events, with_nobody_running};
 ghost use Rattle.kernel_model.specs.KernelRecord.LoggedEvents.{LogsAll};
 
 use crate::kernel_dispatch::registers::no_regs;

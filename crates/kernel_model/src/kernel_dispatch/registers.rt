@@ -1,7 +1,7 @@
 // The registers that a task goes on with.
 ghost use Rattle.std.specs.Prelude.{◌≡◌};
 ghost use Rattle.kernel_model.specs.KernelRecord.ValidTasks.{no_regs};
-ghost use Rattle.kernel_model.specs.KernelDispatch.DispatchWords.{entry_in, guest_regs_in, next_regs_in, saved_in};
+ghost use Rattle.kernel_model.specs.KernelDispatch.Private.DispatchWords.{entry_in, guest_regs_in, next_regs_in, saved_in};
 
 use crate::kernel_record::numbers::{DEAD, INTERRUPTED};
 use kernel_lists::{FIRST_GUEST, RootField, TcbField, field, root};

@@ -4,7 +4,7 @@ ghost use Rattle.word_store.specs.Arithmetic.{signed};
 ghost use Rattle.kernel_model.specs.KernelRecord.Lists.{Lists};
 ghost use Rattle.kernel_model.specs.KernelRecord.Task.{Task};
 ghost use Rattle.kernel_model.specs.KernelDispatch.Dispatch.{CanDispatch, goes_on};
-ghost use Rattle.kernel_model.specs.KernelDispatch.DispatchWords.{takes_packet_by};
+ghost use Rattle.kernel_model.specs.KernelDispatch.Private.DispatchWords.{takes_packet_by};
 ghost use Rattle.kernel_model.specs.KernelDispatch.Turn.{HasTaken, IsDispatched, IsNext};
 ghost use Rattle.kernel_model.specs.KernelRecord.ChangedStore.{HasKeeper};
 

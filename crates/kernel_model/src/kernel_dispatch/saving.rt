@@ -2,7 +2,7 @@
 ghost use Rattle.std.specs.Prelude.{◌≡◌, ◌+◌, ◌<◌, IfSome, length, slice_get};
 ghost use Rattle.kernel_lists.specs.PacketQueue.Queue.{HasQueue, queue_at};
 ghost use Rattle.kernel_model.specs.KernelRecord.Task.{queue_head};
-ghost use Rattle.kernel_model.specs.KernelDispatch.DispatchWords.{suspended_state, taken_state, with_running_saved, with_saved, with_started, with_taken};
+ghost use Rattle.kernel_model.specs.KernelDispatch.Private.DispatchWords.{suspended_state, taken_state, with_running_saved, with_saved, with_started, with_taken};
 
 use kernel_lists::{RootField, TcbField, field, root, set_field, set_root, take};
 use word_store::{Regs, Store};

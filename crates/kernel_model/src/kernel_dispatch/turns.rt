@@ -2,7 +2,7 @@
 ghost use Rattle.std.specs.Prelude.{◌≡◌};
 ghost use Rattle.kernel_model.specs.KernelRecord.Lists.{Lists};
 ghost use Rattle.kernel_model.specs.KernelDispatch.Dispatch.{CanDispatch};
-ghost use Rattle.kernel_model.specs.KernelDispatch.DispatchWords.{goes_on_in};
+ghost use Rattle.kernel_model.specs.KernelDispatch.Private.DispatchWords.{goes_on_in};
 ghost use Rattle.kernel_model.specs.KernelDispatch.Turn.{IsDispatched};
 ghost use Rattle.kernel_model.specs.KernelRecord.ChangedStore.{HasKeeper};
 

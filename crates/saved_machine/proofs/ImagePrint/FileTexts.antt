@@ -17,7 +17,7 @@ use Rattle.saved_text.proofs.SavedLines.LineFields.{Some-same}
 use Rattle.saved_text.specs.SavedLines.Statements.{Bytes, File as FileLine}
 use Rattle.saved_text.specs.ImageForm.{byte_lines, file_statements}
 use Rattle.saved_machine.specs.ImagePrint.SavedImage.{saved_file}
-use Rattle.saved_machine.specs.ImagePrint.Texts.{bytes_text, files_text, statements_text}
+use Rattle.saved_machine.specs.ImagePrint.Private.Texts.{bytes_text, files_text, statements_text}
 use Rattle.saved_machine.proofs.ImagePrint.NumberedPlaces.{drop-step}
 use Rattle.saved_machine.proofs.ImagePrint.StatementTexts.{statements_text-append}
 

@@ -4,7 +4,7 @@ use Rattle.std.specs.Prelude.{codes, decimal}
 use Rattle.module_text.specs.TextReader.Lines.{text_of_lines}
 use Rattle.word_store.specs.declared.registers.Regs.{Regs}
 use Rattle.saved_text.specs.SavedLines.Canonical.{printed_regs}
-use Rattle.saved_machine.specs.ImagePrint.Texts.{head_lines}
+use Rattle.saved_machine.specs.ImagePrint.Private.Texts.{head_lines}
 
 -- the lines before that of the registers
 abbrev pub kernel_front : ℕ → ℕ → ℕ → ℕ → List ℕ

@@ -12,7 +12,7 @@ use Rattle.saved_text.specs.ImageForm.{key_statement, pipe_statement, stream_sta
 use Rattle.ram_disc.specs.Disc.{Disc, stream_at}
 use Rattle.kernel_model.specs.KernelRecord.Kernel.{Pipe}
 use Rattle.saved_machine.specs.ImagePrint.SavedImage.{at_place, with_places, saved_pipe, saved_stream}
-use Rattle.saved_machine.specs.ImagePrint.Texts.{statements_text}
+use Rattle.saved_machine.specs.ImagePrint.Private.Texts.{statements_text}
 use Rattle.saved_machine.proofs.ImagePrint.NumberedPlaces.{numbered-step}
 
 pub statements_text-append : (a b : List Statement) → statements_text (a ++ b) ≡ statements_text a ++ statements_text b

@@ -21,7 +21,7 @@ use Rattle.saved_text.specs.Canonical.{canonical, kernel_text}
 use Rattle.saved_text.specs.ImageForm.{file_statements, key_statement, pipe_statement, statements_of, stream_statement, word_statements}
 use Rattle.saved_text.specs.declared.images.Image.{Image}
 use Rattle.saved_machine.specs.ImagePrint.SavedImage.{numbered_pipes, numbered_streams, saved_file, saved_image, saved_kernel}
-use Rattle.saved_machine.specs.ImagePrint.Texts.{disc_text, end_text, entries_text, front_text, head_lines, resident_lines, statements_text}
+use Rattle.saved_machine.specs.ImagePrint.Private.Texts.{disc_text, end_text, entries_text, front_text, head_lines, resident_lines, statements_text}
 use Rattle.saved_machine.proofs.ImagePrint.StatementTexts.{statements_text-append}
 
 -- the head, and what follows it

@@ -16,7 +16,7 @@ use Rattle.saved_text.specs.declared.images.Image.{Image}
 use Rattle.saved_text.specs.declared.images.SavedPipe.{SavedPipe}
 use Rattle.saved_machine.specs.MachineImage.Machines.{HasMachine, IsOfKind}
 use Rattle.saved_machine.specs.MachineImage.Parts.{disc_with, others_of, placed_pipes}
-use Rattle.saved_machine.specs.MachineImage.Rules.{IsValidStore, ResidentsKeep}
+use Rattle.saved_machine.specs.MachineImage.Private.Rules.{IsValidStore, ResidentsKeep}
 
 keys-due : (keys : List (ℕ × ℕ)) → AllByRecursion (λ (key : ℕ × ℕ). is_step key.0 ≡ true) keys → AllByRecursion (λ (key : ℕ × ℕ). key.0 ≤ most_steps) keys
 keys-due [] all = tt

@@ -5,7 +5,7 @@ ghost use Rattle.saved_text.specs.SavedLines.Canonical.{statement_text};
 ghost use Rattle.saved_text.specs.SavedLines.Statements.{Bytes};
 ghost use Rattle.ram_disc.specs.Disc.{IsDisc, file_named};
 ghost use Rattle.byte_streams.specs.Sinks.{FailsBySink, GathersFor};
-ghost use Rattle.saved_machine.specs.ImagePrint.Texts.{bytes_text, files_text};
+ghost use Rattle.saved_machine.specs.ImagePrint.Private.Texts.{bytes_text, files_text};
 
 use arrayvec::ArrayVec;
 use byte_streams::{Output, Sink, SinkFault};

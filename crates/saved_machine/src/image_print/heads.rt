@@ -2,7 +2,7 @@
 ghost use Rattle.std.specs.Prelude.{false, true};
 ghost use Rattle.module_text.specs.TextReader.Lines.{text_of_lines};
 ghost use Rattle.byte_streams.specs.Sinks.{FailsBySink, GathersFor};
-ghost use Rattle.saved_machine.specs.ImagePrint.Texts.{head_lines};
+ghost use Rattle.saved_machine.specs.ImagePrint.Private.Texts.{head_lines};
 
 use byte_streams::Piece::{Decimal, Text};
 use byte_streams::{Output, Sink, SinkFault, gather_pieces};

@@ -3,7 +3,7 @@ ghost use Rattle.std.specs.Prelude.{map};
 ghost use Rattle.saved_text.specs.ImageForm.{key_statement};
 ghost use Rattle.byte_streams.specs.Sinks.{FailsBySink, GathersFor};
 ghost use Rattle.kernel_machine.specs.RunningMachine.Script.{still_to_come};
-ghost use Rattle.saved_machine.specs.ImagePrint.Texts.{statements_text};
+ghost use Rattle.saved_machine.specs.ImagePrint.Private.Texts.{statements_text};
 
 use byte_streams::{Output, Sink, SinkFault};
 use kernel_machine::Parts as KernelParts;

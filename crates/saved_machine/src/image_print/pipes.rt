@@ -5,7 +5,7 @@ ghost use Rattle.byte_streams.specs.Sinks.{FailsBySink, GathersFor};
 ghost use Rattle.kernel_model.specs.KernelRecord.Pipes.{ArePipes};
 ghost use Rattle.resident_tasks.specs.PipeHandler.PipeCalls.{held_by, pipe_numbered};
 ghost use Rattle.saved_machine.specs.ImagePrint.SavedImage.{at_place, numbered_pipes, saved_pipe};
-ghost use Rattle.saved_machine.specs.ImagePrint.Texts.{statements_text};
+ghost use Rattle.saved_machine.specs.ImagePrint.Private.Texts.{statements_text};
 
 use crate::image_print::residents::flag;
 use arrayvec::ArrayVec;

@@ -8,7 +8,7 @@ ghost use Rattle.kernel_machine.specs.RunningMachine.RepresentedKernels.{Represe
 ghost use Rattle.tripos_machine.specs.State.{IsBare, IsSound};
 ghost use Rattle.saved_machine.specs.ImagePrint.Numbers.{HasWordsAndBytes, IsSized, MayTake};
 ghost use Rattle.saved_machine.specs.ImagePrint.SavedImage.{saved_image, saved_kernel};
-ghost use Rattle.saved_machine.specs.ImagePrint.Texts.{disc_text, entries_text, front_text};
+ghost use Rattle.saved_machine.specs.ImagePrint.Private.Texts.{disc_text, entries_text, front_text};
 
 use crate::image_print::files::print_files;
 use crate::image_print::heads::{print_bare_head, print_kernel_head};

@@ -5,7 +5,7 @@ ghost use Rattle.saved_text.specs.ImageForm.{awaited, flag, mode_number};
 ghost use Rattle.byte_streams.specs.Sinks.{FailsBySink, GathersFor};
 ghost use Rattle.shell.specs.Modes.{mode_of};
 ghost use Rattle.saved_machine.specs.ImagePrint.SavedImage.{saved_mode};
-ghost use Rattle.saved_machine.specs.ImagePrint.Texts.{console_line, resident_lines, shell_line};
+ghost use Rattle.saved_machine.specs.ImagePrint.Private.Texts.{console_line, resident_lines, shell_line};
 
 use byte_streams::{Output, Sink, SinkFault};
 use kernel_machine::Parts as KernelParts;

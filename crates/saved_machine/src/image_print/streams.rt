@@ -4,7 +4,7 @@ ghost use Rattle.saved_text.specs.ImageForm.{stream_statement};
 ghost use Rattle.ram_disc.specs.Disc.{IsDisc, stream_at};
 ghost use Rattle.byte_streams.specs.Sinks.{FailsBySink, GathersFor};
 ghost use Rattle.saved_machine.specs.ImagePrint.SavedImage.{at_place, numbered_streams, saved_stream};
-ghost use Rattle.saved_machine.specs.ImagePrint.Texts.{statements_text};
+ghost use Rattle.saved_machine.specs.ImagePrint.Private.Texts.{statements_text};
 
 use crate::image_print::residents::flag;
 use byte_streams::{Output, Sink, SinkFault};

@@ -2,7 +2,7 @@
 ghost use Rattle.std.specs.Prelude.{◌≡◌};
 ghost use Rattle.saved_text.specs.ImageForm.{word_statement, word_statements};
 ghost use Rattle.byte_streams.specs.Sinks.{FailsBySink, GathersFor};
-ghost use Rattle.saved_machine.specs.ImagePrint.Texts.{end_text, statements_text};
+ghost use Rattle.saved_machine.specs.ImagePrint.Private.Texts.{end_text, statements_text};
 
 use byte_streams::{Output, Sink, SinkFault};
 use saved_text::saved_lines::{print_go, print_word};

@@ -9,7 +9,7 @@ ghost use Rattle.kernel_model.specs.KernelRecord.Recovered.{lists_in};
 ghost use Rattle.kernel_model.specs.KernelRecord.Versions.{highest_id_of};
 ghost use Rattle.saved_text.specs.ImageForm.{AreEntries};
 ghost use Rattle.saved_machine.specs.MachineImage.Parts.{disc_with, mode_of, placed_pipes, shell_of};
-ghost use Rattle.saved_machine.specs.MachineImage.Rules.{ResidentsKeep, lists_of};
+ghost use Rattle.saved_machine.specs.MachineImage.Private.Rules.{ResidentsKeep, lists_of};
 
 use crate::machine_image::store_rules::version_of;
 use kernel_check::{has_residents, highest_of, is_valid_console};

@@ -2,7 +2,7 @@
 ghost use Rattle.std.specs.Prelude.{◌≡◌, ◌↔◌, IfOk, IsTrue};
 ghost use Rattle.kernel_model.specs.KernelRecord.HoldsLists.{HoldsLists};
 ghost use Rattle.kernel_model.specs.KernelRecord.Recovered.{lists_in};
-ghost use Rattle.saved_machine.specs.MachineImage.Rules.{IsValidStore, lists_of};
+ghost use Rattle.saved_machine.specs.MachineImage.Private.Rules.{IsValidStore, lists_of};
 
 use byte_streams::WantMemory;
 use kernel_check::{

@@ -19,7 +19,7 @@ use Rattle.kernel_model.specs.KernelRecord.ValidLists.{AreValid}
 use Rattle.kernel_model.proofs.KernelRecord.BlockStarts.{Tiles-Follow}
 use Rattle.kernel_model.proofs.KernelRecord.Reading.{read-lists}
 use Rattle.shell.specs.declared.shell_listings.blocks.BlockCounts.{BlockCounts}
-use Rattle.shell.specs.ShellListings.BlockCounts.{counted, counts_from, counts_of, no_counts, with_free, with_used}
+use Rattle.shell.specs.ShellListings.Private.BlockCounts.{counted, counts_from, counts_of, no_counts, with_free, with_used}
 use Rattle.shell.specs.ShellListings.BlockLine.{block_line, count_text, free_blocks, largest_run, line_of_counts, most_in_block_line, used_blocks, words_of_blocks}
 use Rattle.resident_tasks.proofs.FaultReporter.ReportLines.{few_digits}
 use Rattle.kernel_model.proofs.WordKinds.OwnedMarks.{size-low}

@@ -8,12 +8,12 @@ use Rattle.kernel_model.specs.KernelRecord.Between.{is_empty_queue}
 use Rattle.kernel_model.specs.KernelRecord.HoldsLists.{HoldsLists}
 use Rattle.kernel_model.specs.KernelRecord.Lists.{Lists}
 use Rattle.kernel_model.specs.KernelRecord.ReadsLists.{ReadsLists}
-use Rattle.kernel_model.specs.KernelRecord.Task.{Task, is_held_state, queue_bit, state_word, task_address, task_words}
+use Rattle.kernel_model.specs.KernelRecord.Task.{Task, field_of_state, is_held_state, queue_bit, state_word, task_address, task_words}
 use Rattle.kernel_model.specs.KernelRecord.ValidTasks.{IsField, IsTask}
 use Rattle.kernel_model.proofs.KernelRecord.EachMember.{all-both, all-each, holds-each}
 use Rattle.kernel_model.proofs.KernelRecord.ReadCoroutines.{HoldsTask, holds-task}
 use Rattle.kernel_model.proofs.KernelRecord.Reading.{read-lists}
-use Rattle.shell.specs.ShellListings.TaskLines.{field_of, has_packets, line_with, most_in_task_line, most_in_tasks, state_text, task_line, task_line_at, task_lines, task_lines_in}
+use Rattle.shell.specs.ShellListings.TaskLines.{has_packets, line_with, most_in_task_line, most_in_tasks, state_text, task_line, task_line_at, task_lines, task_lines_in}
 use Rattle.shell.proofs.ShellListings.LineLengths.{few-tasks}
 
 -- ---- the state
@@ -22,7 +22,7 @@ use Rattle.shell.proofs.ShellListings.LineLengths.{few-tasks}
 abbrev Says : List QueuedPacket → Bool → ℕ → Type 0
 Says ps held f =
     let w = f + queue_bit ps + cond held 2 0 in
-    state_text (field_of w) (has_packets w) (is_held_state w) ≡ state_text f (not (is_empty_queue ps)) held
+    state_text (field_of_state w) (has_packets w) (is_held_state w) ≡ state_text f (not (is_empty_queue ps)) held
 
 each-says : (ps : List QueuedPacket) (held : Bool) → Says ps held 0 × Says ps held 4 × Says ps held 8 × Says ps held 12
 each-says [] true = (refl, refl, refl, refl)
@@ -60,7 +60,7 @@ module _ (s : List ℕ) (l : Lists) (h : HoldsLists s l) where
 
   line-read : (t : Task) → HasWords s t × IsTask l t → task_line_at s t.address ≡ task_line t
   line-read t x =
-      let text = ap (λ w. state_text (field_of w) (has_packets w) (is_held_state w)) x.0.state ∙ field-says t.queue t.held t.field x.1.field in
+      let text = ap (λ w. state_text (field_of_state w) (has_packets w) (is_held_state w)) x.0.state ∙ field-says t.queue t.held t.field x.1.field in
       λ i. line_with (x.0.id i) (x.0.priority i) (text i)
 
   pub tasks-read : task_lines_in s ≡ task_lines l.tasks

@@ -1,12 +1,12 @@
 -- The tasks of the chain, a line for each.
-use Rattle.std.specs.Prelude.{ℕ, ◌+◌, ◌-◌, ◌%◌, ◌==◌, Bool, true, false, not, if◌then◌else◌, List, [], ◌∷◌, codes, decimal, slice_index}
+use Rattle.std.specs.Prelude.{ℕ, ◌+◌, ◌%◌, ◌==◌, Bool, true, false, not, if◌then◌else◌, List, [], ◌∷◌, codes, decimal, slice_index}
 use Rattle.std.specs.List.{flat_map}
 use Rattle.byte_streams.specs.Pieces.{joined}
 use Rattle.kernel_lists.specs.TaskBlock.TaskChain.{id_in, priority_in, tasks_in}
 use Rattle.kernel_lists.specs.TaskBlock.TaskWords.{word_index}
 use Rattle.kernel_lists.specs.declared.task_block.fields.TcbField.TheVariants.{State}
 use Rattle.kernel_model.specs.KernelRecord.Between.{is_empty_queue}
-use Rattle.kernel_model.specs.KernelRecord.Task.{Task, is_held_state}
+use Rattle.kernel_model.specs.KernelRecord.Task.{Task, field_of_state, is_held_state}
 use Rattle.kernel_model.specs.KernelRecord.ValidTasks.{interrupted, runs, waits}
 use Rattle.shell.specs.ShellListings.Columns.{right_in}
 
@@ -49,17 +49,13 @@ most_in_tasks = 2304
 
 -- ---- the same, as the words of a store say
 
--- the field of a state, without the two bits that say more of the task
-abbrev pub field_of : ℕ → ℕ
-field_of w = w - w % 4
-
 -- the bit of a state by which packets wait for the task
 abbrev pub has_packets : ℕ → Bool
 has_packets w = w % 2 == 1
 
 -- the line of a task, by its number, its priority and the word of its state
 abbrev pub line_of_words : ℕ → ℕ → ℕ → List ℕ
-line_of_words id priority state = line_with id priority (state_text (field_of state) (has_packets state) (is_held_state state))
+line_of_words id priority state = line_with id priority (state_text (field_of_state state) (has_packets state) (is_held_state state))
 
 -- the line of the task block at t
 abbrev pub task_line_at : List ℕ → ℕ → List ℕ

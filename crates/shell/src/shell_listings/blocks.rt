@@ -4,7 +4,7 @@ ghost use Rattle.kernel_lists.specs.GetvecChain.Tiling.{IsTiled, blocks_in};
 ghost use Rattle.kernel_model.specs.KernelRecord.HoldsLists.{HoldsLists};
 ghost use Rattle.kernel_model.specs.KernelRecord.Lists.{Lists};
 ghost use Rattle.shell.specs.ShellListings.BlockLine.{block_line, count_text, line_of_counts, most_in_block_line};
-ghost use Rattle.shell.specs.ShellListings.BlockCounts.{MayCount, counted, counts_of};
+ghost use Rattle.shell.specs.ShellListings.Private.BlockCounts.{MayCount, counted, counts_of};
 
 use crate::shell_listings::columns::append_number;
 use byte_streams::Output;

@@ -5,14 +5,14 @@ ghost use Rattle.kernel_lists.specs.TaskBlock.RootWords.{first_task};
 ghost use Rattle.kernel_lists.specs.TaskBlock.TaskChain.{task_link, tasks_in};
 ghost use Rattle.kernel_model.specs.KernelRecord.HoldsLists.{HoldsLists};
 ghost use Rattle.kernel_model.specs.KernelRecord.Lists.{Lists};
-ghost use Rattle.kernel_model.specs.KernelRecord.Task.{is_held_state};
-ghost use Rattle.shell.specs.ShellListings.TaskLines.{field_name, field_of, has_packets, line_of_words, mark, most_in_task_line, most_in_tasks, state_text, task_line_at, task_lines, task_lines_in};
+ghost use Rattle.kernel_model.specs.KernelRecord.Task.{field_of_state, is_held_state};
+ghost use Rattle.shell.specs.ShellListings.TaskLines.{field_name, has_packets, line_of_words, mark, most_in_task_line, most_in_tasks, state_text, task_line_at, task_lines, task_lines_in};
 
 use crate::shell_listings::columns::append_right;
 use byte_streams::Output;
 use kernel_lists::{TcbField, field, tasks};
-use kernel_model::is_held_state;
 use kernel_model::numbers::{INTERRUPTED, RUNS, WAITS};
+use kernel_model::{field_of_state, is_held_state};
 use word_store::Store;
 
 /// Writes a line for each task, in the order of the chain: its number right in 3 places, a space, its priority right in 5
@@ -70,10 +70,10 @@ fn append_line(bytes: &mut Output, id: u32, priority: u32, state: u32)
 fn append_state(bytes: &mut Output, state: u32)
     requires { length bytes.old + 13 ≤ 8192 }
     ensures text { bytes.new ≡ bytes.old
-        ++ state_text (field_of state) (has_packets state) (is_held_state state) }
+        ++ state_text (field_of_state state) (has_packets state) (is_held_state state) }
     ensures short { length bytes.new ≤ length bytes.old + 13 }
 {
-    bytes.append(field_name(state - state % 4));
+    bytes.append(field_name(field_of_state(state)));
     append_mark(bytes, b" pkt", state % 2 == 1);
     append_mark(bytes, b" held", is_held_state(state));
 }

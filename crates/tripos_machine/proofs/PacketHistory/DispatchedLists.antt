@@ -12,7 +12,7 @@ use Rattle.kernel_model.specs.KernelRecord.ValidLists.{AreValid}
 use Rattle.kernel_model.proofs.KernelRecord.ChainSplits.{IsBetween, change-between, found-between}
 use Rattle.kernel_model.proofs.KernelRecord.RunningTask.{running-valid, with_running}
 use Rattle.kernel_model.specs.KernelDispatch.Dispatch.{CanDispatch, dispatched, packets_left, resumed, takes_packet, with_packet_taken, with_suspended}
-use Rattle.kernel_model.specs.KernelDispatch.DispatchWords.{with_running_saved, with_started}
+use Rattle.kernel_model.specs.KernelDispatch.Private.DispatchWords.{with_running_saved, with_started}
 use Rattle.kernel_model.proofs.KernelDispatch.StartedTask.{changed-started}
 use Rattle.kernel_model.proofs.KernelDispatch.SuspendedLists.{lists-suspended}
 use Rattle.kernel_model.proofs.KernelDispatch.TakenPacket.{valid-taken}

@@ -32,7 +32,7 @@ use Rattle.kernel_calls.specs.TaskCalls.ChangePri.{change_pri, priority_tests, w
 use Rattle.kernel_calls.specs.TaskCalls.CreateTask.{MayCreate, create_task, creation_tests, has_high_globals, last_word_of, new_task, number_of, with_created}
 use Rattle.kernel_calls.specs.TaskCalls.DeleteTask.{delete_task, deletion_tests, without_task}
 use Rattle.kernel_calls.specs.TaskCalls.HoldTask.{held, hold, hold_tests}
-use Rattle.kernel_calls.specs.TaskCalls.NewTasks.{MayPlace}
+use Rattle.kernel_calls.specs.TaskCalls.Private.NewTasks.{MayPlace}
 use Rattle.kernel_calls.specs.TaskCalls.OneTask.{is_held}
 use Rattle.kernel_calls.specs.TaskCalls.ReleaseTask.{release, release_tests, released}
 use Rattle.kernel_calls.specs.TaskCalls.SetFlags.{flagged, set_flags}

@@ -1,6 +1,6 @@
 use Rattle.std.proofs.Common.{◌+◌, ◌%◌, get_or, ap, ◌∙◌, subst}
 use Rattle.kernel_lists.specs.OwnedWords.Owned.{written}
-use Rattle.kernel_model.specs.KernelDispatch.DispatchWords.{saved_words}
+use Rattle.kernel_model.specs.KernelDispatch.Private.DispatchWords.{saved_words}
 use Rattle.kernel_calls.specs.CallAnswers.Guests.{GuestAt, IsGuestOf}
 use Rattle.kernel_boot.proofs.BegunTask.{begun-changed, regs-read}
 use Rattle.kernel_boot.proofs.begin.begin_task.Goals as goal

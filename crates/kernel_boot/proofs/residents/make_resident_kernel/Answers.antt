@@ -2,7 +2,7 @@ use Rattle.std.proofs.Common.{◌≡◌, ℕ, Bool, List, [], ◌++◌, length, 
 use Rattle.kernel_lists.specs.OwnedWords.Owned.{Pairs, written}
 use Rattle.kernel_lists.proofs.OwnedWords.OwnedWords.{length-written, written-append}
 use Rattle.kernel_model.specs.KernelRecord.ChangedStore.{IsChanged}
-use Rattle.kernel_boot.specs.BootWords.{block_pairs, chain_pairs, fault_pairs, key_pairs, resident_pairs, root_pairs, shell_pairs}
+use Rattle.kernel_boot.specs.Private.BootWords.{block_pairs, chain_pairs, fault_pairs, key_pairs, resident_pairs, root_pairs, shell_pairs}
 use Rattle.kernel_boot.specs.ResidentKernel.{resident_block_size, resident_lists}
 use Rattle.kernel_boot.proofs.ResidentLists.{residents-changed}
 use Rattle.kernel_boot.proofs.residents.make_resident_kernel.Goals as goal

@@ -1,7 +1,7 @@
 use Rattle.std.proofs.Common.{◌≡◌, ℕ, Bool, List, [], ◌∷◌, ◌++◌, if◌then◌else◌, sym, ap, ◌∙◌}
 use Rattle.kernel_lists.specs.OwnedWords.Owned.{Pairs, written}
 use Rattle.kernel_lists.proofs.OwnedWords.OwnedWords.{written-append}
-use Rattle.kernel_boot.specs.BootWords.{reporter_pairs, waiting_pairs}
+use Rattle.kernel_boot.specs.Private.BootWords.{reporter_pairs, waiting_pairs}
 use Rattle.kernel_boot.proofs.residents.write_chain.Goals as goal
 
 pub returns : goal.returns

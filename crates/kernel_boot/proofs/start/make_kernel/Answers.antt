@@ -2,7 +2,7 @@ use Rattle.std.proofs.Common.{◌≡◌, ℕ, ◌+◌, ◌-◌, List, [], length
 use Rattle.kernel_lists.specs.OwnedWords.Owned.{written}
 use Rattle.kernel_lists.proofs.OwnedWords.OwnedWords.{length-written}
 use Rattle.kernel_model.specs.KernelRecord.ChangedStore.{IsChanged}
-use Rattle.kernel_boot.specs.BootWords.{root_pairs}
+use Rattle.kernel_boot.specs.Private.BootWords.{root_pairs}
 use Rattle.kernel_boot.specs.EmptyKernel.{empty_lists}
 use Rattle.kernel_boot.proofs.EmptyLists.{empty-changed}
 use Rattle.kernel_boot.proofs.EmptyWords.{made-block, pairs}

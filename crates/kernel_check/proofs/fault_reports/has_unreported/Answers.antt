@@ -1,6 +1,6 @@
 use Rattle.std.proofs.Common.{◌≡◌, ◌∙◌}
 use Rattle.kernel_lists.specs.TaskBlock.TaskChain.{tasks_in}
-use Rattle.kernel_check.specs.Reports.{is_unreported_as}
+use Rattle.kernel_check.specs.Private.Reports.{is_unreported_as}
 use Rattle.kernel_check.proofs.FaultReports.{any-behind, any-first, any-here, any-none}
 use Rattle.kernel_check.proofs.fault_reports.has_unreported.Goals as goal
 

@@ -1,7 +1,7 @@
 use Rattle.std.proofs.Common.{◌≡◌}
 use Rattle.std.specs.List.{list_any}
 use Rattle.kernel_model.specs.KernelRecord.Recovered.{lists_in}
-use Rattle.kernel_check.specs.Reports.{is_unreported_as}
+use Rattle.kernel_check.specs.Private.Reports.{is_unreported_as}
 use Rattle.kernel_check.proofs.FaultReports.{any_in}
 use Rattle.kernel_check.proofs.fault_reports.has_unreported.Given as goal
 

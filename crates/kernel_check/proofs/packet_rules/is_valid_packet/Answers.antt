@@ -1,7 +1,7 @@
 use Rattle.std.proofs.Common.{◌∙◌, sym}
 use Rattle.std.proofs.lemmas.Bool.{false≢true}
 use Rattle.kernel_model.specs.KernelRecord.Recovered.{lists_in, packet_in}
-use Rattle.kernel_check.specs.Places.{place_of}
+use Rattle.kernel_check.specs.Private.Places.{place_of}
 use Rattle.kernel_check.proofs.PacketRules.{key-may, other-may}
 use Rattle.kernel_check.proofs.packet_rules.is_valid_packet.Goals as goal
 

@@ -4,7 +4,7 @@ use Rattle.kernel_lists.specs.PacketQueue.Queue.{queue_at}
 use Rattle.kernel_model.specs.KernelRecord.Recovered.{lists_in, packet_in}
 use Rattle.kernel_model.specs.KernelRecord.ValidQueues.{IsValidPacket}
 use Rattle.kernel_check.proofs.ListPasses.ClaimedWalks.{first, goes, going, gone, known-first, of-map}
-use Rattle.kernel_check.specs.Places.{place_of}
+use Rattle.kernel_check.specs.Private.Places.{place_of}
 use Rattle.kernel_check.proofs.QueueRules.{Lodged, May}
 use Rattle.kernel_check.proofs.queue_pass.are_valid_packets.Goals as goal
 

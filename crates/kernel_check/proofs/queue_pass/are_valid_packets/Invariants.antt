@@ -1,6 +1,6 @@
 use Rattle.kernel_lists.specs.PacketQueue.Queue.{queue_at}
 use Rattle.kernel_check.proofs.ListPasses.ClaimedWalks.{IsGoing}
-use Rattle.kernel_check.specs.Places.{place_of}
+use Rattle.kernel_check.specs.Private.Places.{place_of}
 use Rattle.kernel_check.proofs.QueueRules.{Lodged, May}
 use Rattle.kernel_check.proofs.queue_pass.are_valid_packets.Given as goal
 

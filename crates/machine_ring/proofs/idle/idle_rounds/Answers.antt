@@ -1,5 +1,5 @@
 use Rattle.std.proofs.Common.{◌∙◌, subst, sym}
-use Rattle.machine_ring.specs.IdleRounds.{IsStill}
+use Rattle.machine_ring.specs.Private.IdleRounds.{IsStill}
 use Rattle.machine_ring.proofs.IdleRounds.{idle-from}
 use Rattle.machine_ring.proofs.idle.idle_rounds.Goals as goal
 

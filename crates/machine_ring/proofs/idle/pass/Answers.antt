@@ -2,7 +2,7 @@ use Rattle.std.proofs.Common.{◌≡◌, ◌-◌, ◌≤◌, ap, arith, false, s
 use Rattle.byte_streams.specs.Pending.{Gathers, IsGathered}
 use Rattle.byte_streams.proofs.GatheredTexts.{IsGathered-nothing}
 use Rattle.tripos_machine.specs.State.{steps_of}
-use Rattle.machine_ring.specs.IdleRounds.{IsStill, left_after}
+use Rattle.machine_ring.specs.Private.IdleRounds.{IsStill, left_after}
 use Rattle.machine_ring.specs.Rounds.{Rounded, can_step}
 use Rattle.machine_ring.proofs.IdleRounds.{rounds-stepped, rounds-waited}
 use Rattle.machine_ring.proofs.idle.pass.Goals as goal

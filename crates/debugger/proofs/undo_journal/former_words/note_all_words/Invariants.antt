@@ -1,7 +1,7 @@
 use Rattle.std.proofs.Common.{◌≡◌, ◌≤◌, length}
 use Rattle.std.specs.List.{range_with_len}
 use Rattle.debugger.specs.UndoJournal.FormerWords.{former_words, with_new_words}
-use Rattle.debugger.specs.UndoJournal.Rings.{ring_with}
+use Rattle.debugger.specs.UndoJournal.Private.Rings.{ring_with}
 use Rattle.debugger.proofs.undo_journal.former_words.note_all_words.Given as goal
 
 abbrev pub invariant-loop-address : goal.invariant-loop-address

@@ -1,6 +1,6 @@
 use Rattle.std.proofs.Common.{◌≡◌, ◌≤◌, length, take}
 use Rattle.debugger.specs.UndoJournal.FormerWords.{former_words, with_new_words}
-use Rattle.debugger.specs.UndoJournal.Rings.{ring_with}
+use Rattle.debugger.specs.UndoJournal.Private.Rings.{ring_with}
 use Rattle.debugger.proofs.undo_journal.former_words.note_words.Given as goal
 
 abbrev pub invariant-loop-address : goal.invariant-loop-address

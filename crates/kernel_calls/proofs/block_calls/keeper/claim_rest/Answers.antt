@@ -1,6 +1,6 @@
 use Rattle.std.proofs.Common.{[], ◌∷◌, cond, sym, subst, arith}
 use Rattle.std.proofs.lemmas.Bool.{le-ltb, lt-ltb}
-use Rattle.kernel_model.specs.WordKinds.ToldWords.{WasClaimed}
+use Rattle.kernel_model.specs.WordKinds.Private.ToldWords.{WasClaimed}
 use Rattle.kernel_model.proofs.WordKinds.ToldWords.{claimed-none, claimed-one}
 use Rattle.kernel_calls.proofs.block_calls.keeper.claim_rest.Goals as goal
 

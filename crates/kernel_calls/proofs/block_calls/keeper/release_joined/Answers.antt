@@ -1,6 +1,6 @@
 use Rattle.std.proofs.Common.{◌++◌, append-nil, append_assoc, ap, sym, ◌∙◌, subst}
-use Rattle.kernel_model.specs.WordKinds.ToldWords.{WasReleased}
-use Rattle.kernel_calls.specs.BlockCalls.JoinedStarts.{joined_starts}
+use Rattle.kernel_model.specs.WordKinds.Private.ToldWords.{WasReleased}
+use Rattle.kernel_calls.specs.BlockCalls.Private.JoinedStarts.{joined_starts}
 use Rattle.kernel_calls.proofs.BlockCalls.JoinedRuns.{joined-more, joined-so_far}
 use Rattle.kernel_model.proofs.WordKinds.ToldWords.{released-both}
 use Rattle.kernel_calls.proofs.block_calls.keeper.release_joined.Goals as goal

@@ -1,7 +1,7 @@
 use Rattle.std.proofs.Common.{◌≡◌, ◌++◌}
 use Rattle.kernel_lists.specs.GetvecChain.Tiling.{blocks_from}
-use Rattle.kernel_model.specs.WordKinds.ToldWords.{WasReleased}
-use Rattle.kernel_calls.specs.BlockCalls.JoinedStarts.{joined_starts}
+use Rattle.kernel_model.specs.WordKinds.Private.ToldWords.{WasReleased}
+use Rattle.kernel_calls.specs.BlockCalls.Private.JoinedStarts.{joined_starts}
 use Rattle.kernel_calls.proofs.block_calls.keeper.release_joined.Given as goal
 
 abbrev pub invariant-loop-block : goal.invariant-loop-block

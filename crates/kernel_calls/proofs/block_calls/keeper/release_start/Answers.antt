@@ -1,5 +1,5 @@
 use Rattle.std.proofs.Common.{[], ◌∷◌, cond, sym, ◌∙◌, subst}
-use Rattle.kernel_model.specs.WordKinds.ToldWords.{WasReleased}
+use Rattle.kernel_model.specs.WordKinds.Private.ToldWords.{WasReleased}
 use Rattle.kernel_model.proofs.WordKinds.ToldWords.{released-none, released-one}
 use Rattle.kernel_calls.proofs.block_calls.keeper.release_start.Goals as goal
 

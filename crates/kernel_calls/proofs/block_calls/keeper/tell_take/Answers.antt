@@ -7,7 +7,7 @@ use Rattle.kernel_lists.proofs.GetvecChain.Runs.{FoundRun, run-tiled}
 use Rattle.kernel_model.specs.KernelRecord.HoldsLists.{HoldsLists}
 use Rattle.kernel_model.specs.KernelRecord.Lists.{Lists}
 use Rattle.kernel_calls.proofs.CallAnswers.FoundTask.{reads}
-use Rattle.kernel_model.specs.WordKinds.ToldWords.{WasReleased}
+use Rattle.kernel_model.specs.WordKinds.Private.ToldWords.{WasReleased}
 use Rattle.kernel_model.proofs.WordKinds.OwnedMarks.{size-low}
 use Rattle.kernel_calls.proofs.BlockCalls.JoinedRuns.{joined-from}
 use Rattle.kernel_calls.proofs.BlockCalls.TakenWords.{found, knows-take}

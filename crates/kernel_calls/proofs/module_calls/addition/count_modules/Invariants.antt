@@ -1,5 +1,5 @@
 use Rattle.std.proofs.Common.{◌≡◌, ◌+◌, ◌≤◌}
-use Rattle.kernel_calls.specs.ModuleCalls.ModuleFields.{further_count}
+use Rattle.kernel_calls.specs.ModuleCalls.Private.ModuleFields.{further_count}
 use Rattle.kernel_calls.proofs.ModuleCalls.FurtherModules.{count_from}
 use Rattle.kernel_calls.proofs.module_calls.addition.count_modules.Given as goal
 

@@ -6,7 +6,7 @@ use Rattle.kernel_calls.specs.BlockCalls.FreeStore.{data_taken, with_taken}
 use Rattle.kernel_calls.specs.BlockCalls.Getvec.{getvec, getvec_tests}
 use Rattle.kernel_model.specs.KernelRecord.Lists.{Lists}
 use Rattle.kernel_calls.specs.TaskCalls.CreateTask.{last_word_of, new_task, with_created}
-use Rattle.kernel_calls.specs.TaskCalls.NewTasks.{place_task}
+use Rattle.kernel_calls.specs.TaskCalls.Private.NewTasks.{place_task}
 use Rattle.kernel_calls.proofs.TaskCalls.PlacedTask.{head-fits, head-room, insert-task, insert-tasks, placed, set-holds, set-may, write-inside, write-most}
 use Rattle.kernel_calls.proofs.task_calls.new_tasks.place_task.Goals as goal
 use Rattle.kernel_calls.proofs.TaskCalls.TestsInTurn.{refused-alike}

@@ -1,7 +1,7 @@
 use Rattle.std.proofs.Common.{◌≡◌, ℕ, suc, ◌+◌, ◌<◌, List, ◌∷◌, drop, drop-cons, get_or, length, sym, ap, ◌∙◌, subst, arith}
 use Rattle.std.specs.List.{flat_map}
 use Rattle.kernel_lists.specs.HunkLoader.Globals.{globals_in, with_globals}
-use Rattle.kernel_calls.specs.TaskCalls.NewTasks.{MaySetGlobals}
+use Rattle.kernel_calls.specs.TaskCalls.Private.NewTasks.{MaySetGlobals}
 use Rattle.kernel_calls.proofs.TaskCalls.ModuleGlobals.{has-modules, next-globals, next-holds, next-may}
 use Rattle.kernel_calls.proofs.task_calls.new_tasks.set_globals.Goals as goal
 

@@ -3,7 +3,7 @@ use Rattle.std.specs.List.{flat_map}
 use Rattle.kernel_lists.specs.HunkLoader.Globals.{globals_in, with_globals}
 use Rattle.kernel_model.specs.KernelRecord.HoldsLists.{HoldsLists}
 use Rattle.kernel_model.specs.KernelRecord.Lists.{Lists}
-use Rattle.kernel_calls.specs.TaskCalls.NewTasks.{MaySetGlobals}
+use Rattle.kernel_calls.specs.TaskCalls.Private.NewTasks.{MaySetGlobals}
 use Rattle.kernel_calls.proofs.task_calls.new_tasks.set_globals.Given as goal
 
 abbrev pub invariant-loop-m : goal.invariant-loop-m

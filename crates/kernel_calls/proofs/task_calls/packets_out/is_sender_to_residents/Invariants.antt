@@ -1,7 +1,7 @@
 use Rattle.std.proofs.Common.{◌≡◌}
 use Rattle.std.specs.List.{AllByRecursion, list_any}
 use Rattle.kernel_model.specs.KernelRecord.KernelRanges.{CanWalkTask}
-use Rattle.kernel_calls.specs.TaskCalls.PacketsOut.{is_sender_to, is_sender_to_residents}
+use Rattle.kernel_calls.specs.TaskCalls.Private.PacketsOut.{is_sender_to, is_sender_to_residents}
 use Rattle.kernel_calls.proofs.task_calls.packets_out.is_sender_to_residents.Given as goal
 
 abbrev pub invariant-loop-t : goal.invariant-loop-t

@@ -1,7 +1,7 @@
 use Rattle.std.proofs.Common.{◌≡◌, ◌∙◌, refl, sym}
 use Rattle.std.proofs.lemmas.Bool.{false≢true}
 use Rattle.kernel_lists.specs.TaskBlock.TaskChain.{tasks_in}
-use Rattle.kernel_check.specs.ListPasses.CanPass.{CanPass}
+use Rattle.kernel_check.specs.ListPasses.Private.CanPass.{CanPass}
 use Rattle.kernel_check.proofs.ListPasses.ClaimedWalks.{can-pass, chain-walk, first, going, gone}
 use Rattle.kernel_check.specs.ListPasses.Frames.{OwnsCoroutines}
 use Rattle.kernel_check.proofs.list_passes.coroutine_pass.are_valid_coroutines.Goals as goal

@@ -1,6 +1,6 @@
 use Rattle.kernel_lists.specs.TaskBlock.TaskChain.{tasks_in}
 use Rattle.kernel_check.specs.ListPasses.StartMarks.{IsShut}
-use Rattle.kernel_check.specs.ListPasses.CanPass.{CanPass}
+use Rattle.kernel_check.specs.ListPasses.Private.CanPass.{CanPass}
 use Rattle.kernel_check.proofs.ListPasses.ClaimedWalks.{IsGoing}
 use Rattle.kernel_check.specs.ListPasses.Frames.{OwnsCoroutines}
 use Rattle.kernel_check.proofs.list_passes.coroutine_pass.are_valid_coroutines.Given as goal

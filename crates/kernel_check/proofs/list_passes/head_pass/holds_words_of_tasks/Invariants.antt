@@ -1,7 +1,7 @@
 use Rattle.kernel_lists.specs.TaskBlock.TaskChain.{tasks_in}
 use Rattle.kernel_model.specs.KernelRecord.Recovered.{lists_in, task_in}
 use Rattle.store_claims.specs.AdoptionLaw.Passes.{HoldsTaskWords}
-use Rattle.kernel_check.specs.ListPasses.CanPass.{CanPass}
+use Rattle.kernel_check.specs.ListPasses.Private.CanPass.{CanPass}
 use Rattle.kernel_check.specs.ListPasses.Frames.{OwnsCoroutines}
 use Rattle.kernel_check.proofs.ListPasses.ClaimedWalks.{IsGoing}
 use Rattle.kernel_check.proofs.list_passes.head_pass.holds_words_of_tasks.Given as goal

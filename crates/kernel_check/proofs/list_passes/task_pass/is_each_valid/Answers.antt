@@ -3,7 +3,7 @@ use Rattle.std.proofs.lemmas.Bool.{false≢true}
 use Rattle.kernel_lists.specs.TaskBlock.TaskChain.{tasks_in}
 use Rattle.kernel_model.specs.KernelRecord.Recovered.{lists_in, task_in}
 use Rattle.kernel_model.specs.KernelRecord.ValidTasks.{IsTask}
-use Rattle.kernel_check.specs.ListPasses.CanPass.{CanPass}
+use Rattle.kernel_check.specs.ListPasses.Private.CanPass.{CanPass}
 use Rattle.kernel_check.proofs.ListPasses.ClaimedWalks.{can-pass, chain-walk, first, going, gone, of-tasks}
 use Rattle.kernel_check.proofs.list_passes.task_pass.is_each_valid.Goals as goal
 

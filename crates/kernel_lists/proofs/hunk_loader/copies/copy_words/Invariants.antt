@@ -1,6 +1,6 @@
 use Rattle.std.proofs.Common.{ℕ, List}
 use Rattle.word_store.specs.Row.{with_words}
-use Rattle.kernel_lists.specs.HunkLoader.Follow.{WordsFollow}
+use Rattle.kernel_lists.specs.HunkLoader.Private.Follow.{WordsFollow}
 use Rattle.kernel_lists.proofs.HunkLoader.CopiedWords.{CopyLeft}
 use Rattle.kernel_lists.proofs.hunk_loader.copies.copy_words.Given as goal
 

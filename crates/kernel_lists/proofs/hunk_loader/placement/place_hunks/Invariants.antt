@@ -1,6 +1,6 @@
 use Rattle.std.proofs.Common.{◌≡◌, ◌+◌, ◌-◌, length}
 use Rattle.module_text.specs.declared.modules.Module.{Module}
-use Rattle.kernel_lists.specs.HunkLoader.Follow.{FitsAt}
+use Rattle.kernel_lists.specs.HunkLoader.Private.Follow.{FitsAt}
 use Rattle.kernel_lists.proofs.HunkLoader.PlacedHunks.{HunksLeft, row_behind}
 use Rattle.kernel_lists.proofs.hunk_loader.placement.place_hunks.Given as goal
 

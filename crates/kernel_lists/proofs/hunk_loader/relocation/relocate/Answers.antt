@@ -1,5 +1,5 @@
 use Rattle.std.proofs.Common.{◌≡◌, ◌∙◌, length, ap, refl, arith}
-use Rattle.kernel_lists.specs.HunkLoader.Follow.{places}
+use Rattle.kernel_lists.specs.HunkLoader.Private.Follow.{places}
 use Rattle.module_text.specs.ModuleForm.{relocation_items}
 use Rattle.std.specs.Prelude.{◌++◌}
 use Rattle.kernel_lists.proofs.HunkLoader.CopiedWords.{read_further}

@@ -1,6 +1,6 @@
 use Rattle.std.proofs.Common.{◌≡◌, ◌-◌, ℕ, List, length}
 use Rattle.std.specs.List.{concat}
-use Rattle.kernel_lists.specs.HunkLoader.Follow.{ListsFollow, places}
+use Rattle.kernel_lists.specs.HunkLoader.Private.Follow.{ListsFollow, places}
 use Rattle.kernel_lists.specs.HunkLoader.RelocatedWords.{relocated}
 use Rattle.kernel_lists.proofs.HunkLoader.RelocationLists.{ListsInside, ListsLeft}
 use Rattle.kernel_lists.proofs.hunk_loader.relocation.relocate.Given as goal

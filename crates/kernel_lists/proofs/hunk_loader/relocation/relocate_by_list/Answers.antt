@@ -1,6 +1,6 @@
 use Rattle.std.proofs.Common.{◌≡◌, ◌∙◌, ◌-◌, ◌+◌, ℕ, List, length, get_or, refl, sym, subst, arith, length-set}
 use Rattle.word_store.specs.Arithmetic.{add}
-use Rattle.kernel_lists.specs.HunkLoader.Follow.{places}
+use Rattle.kernel_lists.specs.HunkLoader.Private.Follow.{places}
 use Rattle.kernel_lists.specs.HunkLoader.RelocatedWords.{relocated}
 use Rattle.kernel_lists.proofs.HunkLoader.CopiedWords.{read_further}
 use Rattle.kernel_lists.proofs.HunkLoader.RelocationLists.{OffsetsLeft, inside_begin, inside_more, offsets_begin, offsets_done, offsets_more, offsets_some}

@@ -1,5 +1,5 @@
 use Rattle.std.proofs.Common.{◌≡◌, ◌-◌, ◌<◌, ℕ, List, length}
-use Rattle.kernel_lists.specs.HunkLoader.Follow.{OffsetsFollow, places}
+use Rattle.kernel_lists.specs.HunkLoader.Private.Follow.{OffsetsFollow, places}
 use Rattle.kernel_lists.specs.HunkLoader.RelocatedWords.{relocated}
 use Rattle.kernel_lists.proofs.HunkLoader.RelocationLists.{OffsetsInside, OffsetsLeft}
 use Rattle.kernel_lists.proofs.hunk_loader.relocation.relocate_by_list.Given as goal

@@ -1,7 +1,7 @@
 use Rattle.std.proofs.Common.{◌∙◌, ap, arith, length, subst, sym}
 use Rattle.std.proofs.lemmas.List.{length-append}
 use Rattle.kernel_machine.specs.KernelSteps.ResidentSteps.{console_step}
-use Rattle.kernel_machine.specs.RunningMachine.Leaves.{Leaves}
+use Rattle.kernel_machine.specs.RunningMachine.Private.Leaves.{Leaves}
 use Rattle.kernel_machine.proofs.RunningMachine.ConsoleBytes.{console-bytes}
 use Rattle.kernel_machine.proofs.RunningMachine.LeftParts.{leaves-none}
 use Rattle.kernel_machine.proofs.RunningMachine.ResidentParts.{leaves-four, other-resident}

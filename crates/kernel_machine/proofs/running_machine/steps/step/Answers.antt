@@ -1,6 +1,6 @@
 use Rattle.std.proofs.Common.{◌∙◌, refl, subst, sym}
 use Rattle.kernel_machine.specs.KernelSteps.Step.{after_the_turn, turn, unless_stopped, with_step}
-use Rattle.kernel_machine.specs.RunningMachine.Leaves.{Leaves}
+use Rattle.kernel_machine.specs.RunningMachine.Private.Leaves.{Leaves}
 use Rattle.kernel_machine.proofs.RunningMachine.LeftParts.{leaves-none, leaves-then}
 use Rattle.kernel_machine.proofs.RunningMachine.StepParts.{can-serve, can-turn, none-stopped, represents-step, rest-goes, rest-stops, some-stopped, stop-in-turn, taken, told}
 use Rattle.kernel_machine.proofs.running_machine.steps.step.Goals as goal

@@ -1,5 +1,5 @@
 use Rattle.std.proofs.Common.{◌∙◌, ap, subst, sym}
-use Rattle.kernel_machine.specs.RunningMachine.Leaves.{Leaves}
+use Rattle.kernel_machine.specs.RunningMachine.Private.Leaves.{Leaves}
 use Rattle.kernel_machine.proofs.RunningMachine.LeftParts.{leaves-none}
 use Rattle.kernel_machine.proofs.RunningMachine.StepParts.{step-stays}
 use Rattle.kernel_machine.proofs.running_machine.steps.step_or_stay.Goals as goal

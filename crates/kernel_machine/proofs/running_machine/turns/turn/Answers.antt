@@ -5,7 +5,7 @@ use Rattle.kernel_machine.specs.KernelSteps.GuestSteps.{guest_step}
 use Rattle.kernel_machine.specs.KernelSteps.ResidentSteps.{resident_step}
 use Rattle.kernel_machine.specs.KernelSteps.Stepped.{Stepped}
 use Rattle.kernel_machine.proofs.KernelSteps.TurnWays.{turn-guest, turn-resident}
-use Rattle.kernel_machine.specs.RunningMachine.Leaves.{Leaves}
+use Rattle.kernel_machine.specs.RunningMachine.Private.Leaves.{Leaves}
 use Rattle.kernel_machine.proofs.RunningMachine.RunningTask.{guest-number, other-number}
 use Rattle.kernel_machine.proofs.RunningMachine.TurnBytes.{turn-bytes}
 use Rattle.kernel_machine.proofs.running_machine.turns.turn.Goals as goal

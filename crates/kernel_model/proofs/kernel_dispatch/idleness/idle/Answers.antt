@@ -3,7 +3,7 @@ use Rattle.std.proofs.lemmas.Bool.{ne_eqb}
 use Rattle.kernel_lists.specs.declared.packet_queue.events.KernelEvent.TheVariants.{Runs}
 use Rattle.kernel_model.specs.KernelRecord.NotedEvents.{NotesAll}
 use Rattle.kernel_model.proofs.KernelRecord.NotedInTurn.{notes-one}
-use Rattle.kernel_model.specs.KernelDispatch.DispatchWords.{running_in}
+use Rattle.kernel_model.specs.KernelDispatch.Private.DispatchWords.{running_in}
 use Rattle.kernel_model.proofs.kernel_dispatch.idleness.idle.Goals as goal
 
 pub returns-clause-events : goal.returns-clause-events

@@ -3,7 +3,7 @@ use Rattle.word_store.specs.Arithmetic.{signed}
 use Rattle.kernel_lists.specs.PacketQueue.Log.{Notes}
 use Rattle.kernel_lists.specs.declared.packet_queue.events.KernelEvent.TheVariants.{Taken}
 use Rattle.kernel_model.specs.KernelDispatch.Dispatch.{takes_packet}
-use Rattle.kernel_model.specs.KernelDispatch.DispatchWords.{takes_packet_by}
+use Rattle.kernel_model.specs.KernelDispatch.Private.DispatchWords.{takes_packet_by}
 use Rattle.kernel_model.proofs.KernelDispatch.TakenWork.{none-taken, one-taken, some-taken, takes-told, valid-queue}
 use Rattle.kernel_model.proofs.kernel_dispatch.resumption.take_due.Goals as goal
 

@@ -1,5 +1,5 @@
 use Rattle.std.proofs.Common.{◌∙◌, sym, ap}
-use Rattle.kernel_model.specs.KernelDispatch.DispatchWords.{goes_on_in}
+use Rattle.kernel_model.specs.KernelDispatch.Private.DispatchWords.{goes_on_in}
 use Rattle.kernel_model.proofs.KernelDispatch.NobodyRuns.{goes-on, goes-told, next-none, next-some, nobody-runs}
 use Rattle.kernel_model.proofs.kernel_dispatch.turns.switch.Goals as goal
 

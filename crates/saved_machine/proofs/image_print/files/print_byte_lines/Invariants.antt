@@ -1,5 +1,5 @@
 use Rattle.std.proofs.Common.{◌≤◌}
-use Rattle.saved_machine.specs.ImagePrint.Texts.{bytes_text}
+use Rattle.saved_machine.specs.ImagePrint.Private.Texts.{bytes_text}
 use Rattle.saved_machine.proofs.ImagePrint.PrintedParts.{HasPrinted}
 use Rattle.saved_machine.proofs.ImagePrint.StatementTexts.{lines_from}
 use Rattle.saved_machine.proofs.image_print.files.print_byte_lines.Given as goal

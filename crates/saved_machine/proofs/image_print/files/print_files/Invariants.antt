@@ -1,5 +1,5 @@
 use Rattle.std.proofs.Common.{◌≤◌, ◌-◌, drop}
-use Rattle.saved_machine.specs.ImagePrint.Texts.{files_text}
+use Rattle.saved_machine.specs.ImagePrint.Private.Texts.{files_text}
 use Rattle.saved_machine.proofs.ImagePrint.PrintedParts.{HasPrinted}
 use Rattle.saved_machine.proofs.image_print.files.print_files.Given as goal
 

@@ -2,7 +2,7 @@ use Rattle.std.proofs.Common.{◌∙◌, Option, sym, subst}
 use Rattle.std.specs.Option.{option_to_list}
 use Rattle.ram_disc.specs.Disc.{File}
 use Rattle.byte_streams.specs.Pending.{Gathers}
-use Rattle.saved_machine.specs.ImagePrint.Texts.{files_text}
+use Rattle.saved_machine.specs.ImagePrint.Private.Texts.{files_text}
 use Rattle.saved_machine.proofs.ImagePrint.FileTexts.{nth-named}
 use Rattle.saved_machine.proofs.image_print.files.print_nth_file.Goals as goal
 

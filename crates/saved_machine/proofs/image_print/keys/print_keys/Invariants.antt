@@ -1,6 +1,6 @@
 use Rattle.std.proofs.Common.{◌≤◌, map, drop}
 use Rattle.saved_text.specs.ImageForm.{key_statement}
-use Rattle.saved_machine.specs.ImagePrint.Texts.{statements_text}
+use Rattle.saved_machine.specs.ImagePrint.Private.Texts.{statements_text}
 use Rattle.saved_machine.proofs.ImagePrint.PrintedParts.{HasPrinted}
 use Rattle.saved_machine.proofs.image_print.keys.print_keys.Given as goal
 

@@ -1,7 +1,7 @@
 use Rattle.std.proofs.Common.{◌≤◌, ◌-◌, map, drop}
 use Rattle.saved_text.specs.ImageForm.{pipe_statement}
 use Rattle.saved_machine.specs.ImagePrint.SavedImage.{with_places, numbered_pipes, saved_pipe}
-use Rattle.saved_machine.specs.ImagePrint.Texts.{statements_text}
+use Rattle.saved_machine.specs.ImagePrint.Private.Texts.{statements_text}
 use Rattle.saved_machine.proofs.ImagePrint.PrintedParts.{HasPrinted}
 use Rattle.saved_machine.proofs.image_print.pipes.print_pipes.Given as goal
 

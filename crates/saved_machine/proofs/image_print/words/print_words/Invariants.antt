@@ -1,6 +1,6 @@
 use Rattle.std.proofs.Common.{◌≤◌, drop}
 use Rattle.saved_text.specs.ImageForm.{word_statements}
-use Rattle.saved_machine.specs.ImagePrint.Texts.{statements_text}
+use Rattle.saved_machine.specs.ImagePrint.Private.Texts.{statements_text}
 use Rattle.saved_machine.proofs.ImagePrint.PrintedParts.{HasPrinted}
 use Rattle.saved_machine.proofs.image_print.words.print_words.Given as goal
 

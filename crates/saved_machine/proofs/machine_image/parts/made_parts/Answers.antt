@@ -1,6 +1,6 @@
 use Rattle.std.proofs.Common.{arith, ap, length}
 use Rattle.kernel_model.proofs.KernelRecord.WalkedLists.{can-walk}
-use Rattle.saved_machine.specs.MachineImage.Rules.{lists_of}
+use Rattle.saved_machine.specs.MachineImage.Private.Rules.{lists_of}
 use Rattle.saved_machine.proofs.MachineImage.AdoptedParts.{residents-adopted}
 use Rattle.saved_machine.proofs.machine_image.parts.made_parts.Goals as goal
 

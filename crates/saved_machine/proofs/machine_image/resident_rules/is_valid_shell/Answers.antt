@@ -1,6 +1,6 @@
 use Rattle.std.proofs.Common.{◌∙◌, ap, arith, length, refl, sym}
 use Rattle.std.proofs.lemmas.Bool.{false≢true}
-use Rattle.saved_machine.specs.MachineImage.Rules.{lists_of}
+use Rattle.saved_machine.specs.MachineImage.Private.Rules.{lists_of}
 use Rattle.saved_machine.proofs.MachineImage.ResidentRules.{shell-mistaken, shell-types}
 use Rattle.saved_machine.proofs.machine_image.resident_rules.is_valid_shell.Goals as goal
 

@@ -1,7 +1,7 @@
 use Rattle.std.proofs.Common.{◌∙◌, ap, refl, sym}
 use Rattle.std.proofs.lemmas.Bool.{false≢true, true_from_ne_false}
 use Rattle.saved_machine.specs.MachineImage.Parts.{placed_pipes}
-use Rattle.saved_machine.specs.MachineImage.Rules.{lists_of}
+use Rattle.saved_machine.specs.MachineImage.Private.Rules.{lists_of}
 use Rattle.saved_machine.proofs.MachineImage.ResidentRules.{is-empty, is-some, none-piped, some-piped}
 use Rattle.saved_machine.proofs.machine_image.resident_rules.pipes_may_be.Goals as goal
 

@@ -1,6 +1,6 @@
 use Rattle.std.proofs.Common.{ap, sym, subst, ◌∙◌}
 use Rattle.kernel_lists.specs.GetvecChain.Tiling.{blocks_in}
-use Rattle.shell.specs.ShellListings.BlockCounts.{counts_from, no_counts}
+use Rattle.shell.specs.ShellListings.Private.BlockCounts.{counts_from, no_counts}
 use Rattle.shell.proofs.ShellListings.BlockSums.{MayCountAll, may-count-tiles}
 use Rattle.shell.proofs.shell_listings.blocks.count_blocks.Goals as goal
 

@@ -1,6 +1,6 @@
 use Rattle.std.proofs.Common.{◌≡◌}
 use Rattle.kernel_lists.specs.GetvecChain.Tiling.{blocks_in}
-use Rattle.shell.specs.ShellListings.BlockCounts.{counts_from, counts_of}
+use Rattle.shell.specs.ShellListings.Private.BlockCounts.{counts_from, counts_of}
 use Rattle.shell.proofs.ShellListings.BlockSums.{MayCountAll}
 use Rattle.shell.proofs.shell_listings.blocks.count_blocks.Given as goal
 

@@ -1,0 +1,2 @@
+pub mod NewTasks
+pub mod PacketsOut

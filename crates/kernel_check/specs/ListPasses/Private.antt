@@ -1,0 +1,4 @@
+pub mod CanPass
+pub mod FreePackets
+pub mod RootRules
+pub mod TaskRules

@@ -1,0 +1,3 @@
+pub mod ClaimedQueue
+pub mod Places
+pub mod Reports
