@@ -34,7 +34,7 @@ pub static BYTES: [u8; 256] = [
 ];
 
 /// The function byte that is kept for a name: that of its row, where a row has it.
-#[tactic(auto, unfolding(crate::specs::InstructionTable::Places::kept_byte))]
+#[tactic(auto, unfolding(crate::specs::InstructionTable::Private::Places::kept_byte))]
 pub(crate) fn kept_byte(name: &[u8]) -> u8
     ensures { result ≡ kept_byte name.now }
 {
