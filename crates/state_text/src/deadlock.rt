@@ -13,8 +13,8 @@ use crate::tasks::awaits_packet;
 use byte_streams::Piece::{Decimal, Text};
 use byte_streams::{Output, Sink, SinkFault, gather, gather_pieces};
 use kernel_lists::{FIRST_GUEST, TcbField, field, tasks};
-use kernel_model::is_held_state;
 use kernel_model::numbers::{INTERRUPTED, RUNS};
+use kernel_model::{field_of_state, is_held_state};
 use tripos_machine::Machine;
 use word_store::Store;
 
@@ -212,7 +212,7 @@ fn is_held_up(store: &Store, t: u32) -> bool
     if !is_held_state(state) {
         return false;
     }
-    match state - state % 4 {
+    match field_of_state(state) {
         RUNS | INTERRUPTED => true,
         _ => !is_empty_queue(store, store.address_of(t, TcbField::Queue.index())),
     }

@@ -11,6 +11,7 @@ use crate::queues::is_empty_queue;
 use byte_streams::Piece::{Decimal, Text};
 use byte_streams::{Output, Sink, SinkFault, gather_pieces};
 use kernel_lists::{RootField, TcbField, field, tasks};
+use kernel_model::field_of_state;
 use kernel_model::numbers::DEAD;
 use tripos_machine::Machine;
 use word_store::Store;
@@ -107,7 +108,7 @@ fn are_dead(store: &Store) -> bool
 {
     for t in tasks(store) {
         let state = field(store, t, TcbField::State);
-        if state - state % 4 != DEAD {
+        if field_of_state(state) != DEAD {
             return false;
         }
     }

@@ -19,8 +19,8 @@ use crate::queues::is_empty_queue;
 use byte_streams::Piece::{Decimal, Text};
 use byte_streams::{Output, Sink, SinkFault, gather, gather_pieces};
 use kernel_lists::{TcbField, field, tasks};
-use kernel_model::is_held_state;
 use kernel_model::numbers::{FAULT_ADDRESS, FAULT_WORD, INTERRUPTED, REPORTED, RUNS, WAITS};
+use kernel_model::{field_of_state, is_held_state};
 use word_store::Store;
 
 /// Gathers the lines of each task, in the order of the chain.
@@ -122,7 +122,7 @@ fn gather_state_words<K: Sink>(
             Text(b", priority "),
             Decimal(u64::from(field(store, t, TcbField::Pri))),
             Text(b", "),
-            Text(field_words(state - state % 4)),
+            Text(field_words(field_of_state(state))),
             Text(held_words(is_held_state(state))),
         ],
     )
@@ -250,7 +250,7 @@ pub(crate) fn awaits_packet(store: &Store, t: u32) -> bool
     ensures { result ≡ awaits_packet (task_in store.now t) }
 {
     let state = field(store, t, TcbField::State);
-    if state - state % 4 != WAITS {
+    if field_of_state(state) != WAITS {
         return false;
     }
     is_empty_queue(store, store.address_of(t, TcbField::Queue.index()))
@@ -268,7 +268,7 @@ fn gather_resumption<K: Sink>(
     ensures cause { FailsBySink K.Sink out.old out.new result }
 {
     let state = field(store, t, TcbField::State);
-    if state - state % 4 != INTERRUPTED {
+    if field_of_state(state) != INTERRUPTED {
         return Ok(());
     }
     let pc = field(store, t, TcbField::SavedPc);

@@ -16,6 +16,7 @@ use crate::step_log::refusals::gather_refusal;
 use byte_streams::Piece::{Signed, Text};
 use byte_streams::{Output, Sink, SinkFault};
 use kernel_lists::{TcbField, field, find};
+use kernel_model::field_of_state;
 use kernel_model::numbers::WAITS;
 use tripos_machine::Machine;
 use word_store::{Store, signed};
@@ -122,7 +123,7 @@ fn answer_at(store: &Store, t: u32) -> CallAnswer
     ensures { result ≡ answer_at store.now t }
 {
     let state = field(store, t, TcbField::State);
-    if state - state % 4 == WAITS {
+    if field_of_state(state) == WAITS {
         return CallAnswer::Waits;
     }
     CallAnswer::Results {
