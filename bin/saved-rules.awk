@@ -45,7 +45,7 @@ function sender_name(s) {
 
 # ---- the root node, the task table and the end word
 
-function root_stands(    i) {
+function check_root(    i) {
     if (w(109) != size) breaks("word 109 is the number of the words of the store, which has " size ", and it holds " w(109))
     if (w(111) != 1 && w(111) != 2) breaks("word 111 is the version, 1 or 2, and it holds " w(111))
     top = w(111) == 1 ? 20 : 63
@@ -211,7 +211,7 @@ function words_are_apart(    i, j, t, c) {
 
 # ---- modules
 
-function modules_stand(    i, j, m, n) {
+function check_modules(    i, j, m, n) {
     for (i = 1; i <= nodes["modules"]; i++) {
         m = node["modules", i]
         n = 1 + w(m + 1)
@@ -223,8 +223,8 @@ function modules_stand(    i, j, m, n) {
 
 # ---- tasks
 
-function tasks_stand(    i, t, id, before) {
-    for (i = 1; i <= tasks; i++) task_stands(node["chain", i], w(node["chain", i] + 1))
+function check_tasks(    i, t, id, before) {
+    for (i = 1; i <= tasks; i++) check_task(node["chain", i], w(node["chain", i] + 1))
     for (i = 1; i <= tasks; i++) {
         t = node["chain", i]
         id = w(t + 1)
@@ -245,14 +245,14 @@ function tasks_stand(    i, t, id, before) {
     }
 }
 
-function task_stands(t, id,    field) {
+function check_task(t, id,    field) {
     if (w(t + 2) < 1 || w(t + 2) > 10000) breaks("the priority of task " id " is " w(t + 2) ", and priorities are from 1 to 10000")
     if (w(t + 9) > top) breaks("the maker of task " id " is " w(t + 9) ", and the highest number of a task is " top)
     field = state_field(t)
     if (field > 12) breaks("the state word of task " id " at " (t + 4) " holds " w(t + 4) ", which is no state of a task")
     if (w(t + 13) > 255) breaks("the saved C of task " id " is " w(t + 13) ", and C is a byte")
-    if (is_guest(id)) guest_stands(t, id)
-    else resident_stands(t, id, field)
+    if (is_guest(id)) check_guest(t, id)
+    else check_resident(t, id, field)
 }
 
 # the address of the i-th module of the task at t
@@ -260,7 +260,7 @@ function module_word(t, i) {
     return i == 1 ? w(t + 10) : w(t + 21 + i)
 }
 
-function guest_stands(t, id,    i, n, m, fault) {
+function check_guest(t, id,    i, n, m, fault) {
     if (id > top) breaks("the task block at " t " has the number " id ", and the highest number of a task is " top)
     has_block(t, heads + 1001 + w(t + 7), "the task block of task " id " at " t ", whose stack has the highest index " w(t + 7) ",")
     for (i = 1; i <= most_modules; i++) {
@@ -282,7 +282,7 @@ function is_fault_word(fault, address) {
     return fault <= 8 && fault != 6
 }
 
-function resident_stands(t, id, field,    address, priority, i, name) {
+function check_resident(t, id, field,    address, priority, i, name) {
     if (id == 0) breaks("the task block at " t " has the number 0, and tasks have numbers from 1 on")
     name = named_task(id) ", "
     address = id == 1 ? 201 : id == 2 ? 287 : id == 3 ? 224 : 247
@@ -301,7 +301,7 @@ function resident_stands(t, id, field,    address, priority, i, name) {
 
 # ---- the task table, and who is said to run
 
-function table_stands(    id, wanted) {
+function check_table(    id, wanted) {
     for (id = 1; id <= top; id++) {
         wanted = (id in task_at) ? task_at[id] : 0
         if (w(120 + id) != wanted)
@@ -319,7 +319,7 @@ function running_is_there(    i) {
 
 # ---- coroutines
 
-function coroutines_stand(    i, j, t, id, c) {
+function check_coroutines(    i, j, t, id, c) {
     for (i = 1; i <= tasks; i++) {
         t = node["chain", i]
         id = w(t + 1)
@@ -329,12 +329,12 @@ function coroutines_stand(    i, j, t, id, c) {
             if (w(c + 4) < 16) breaks("the coroutine at " c " of task " id " has the highest index " w(c + 4) ", and it is 16 or more")
             coroutine_of[c] = t
         }
-        active_stand(t, id)
+        check_active(t, id)
     }
 }
 
 # The active ones, from the one that runs outwards; the last has the task as its parent.
-function active_stand(t, id,    c, before, n) {
+function check_active(t, id,    c, before, n) {
     before = 0
     for (c = w(t + 18); c != 0 && c != t; c = w(c + 1)) {
         if (!(c in coroutine_of) || coroutine_of[c] != t)
@@ -348,11 +348,11 @@ function active_stand(t, id,    c, before, n) {
 
 # ---- words of tasks and coroutines that follow from all these
 
-function heads_stand(    i) {
-    for (i = 1; i <= tasks; i++) head_stands(node["chain", i], w(node["chain", i] + 1))
+function check_heads(    i) {
+    for (i = 1; i <= tasks; i++) check_head(node["chain", i], w(node["chain", i] + 1))
 }
 
-function head_stands(t, id,    n, stack, globals, i, j, c, gap) {
+function check_head(t, id,    n, stack, globals, i, j, c, gap) {
     n = nodes["queue " t]
     if (w(t + 4) % 2 != (n > 0))
         breaks("the state word of task " id " is " w(t + 4) ", so that " (n > 0 ? "no packet waits" : "packets wait") \
@@ -368,11 +368,11 @@ function head_stands(t, id,    n, stack, globals, i, j, c, gap) {
     if (w(t + 18) == t) breaks("the root of task " id " runs, for which word " (t + 18) " is 0, and it holds " t)
     for (j = 1; j <= nodes["coroutines " t]; j++) {
         c = node["coroutines " t, j]
-        coroutine_words_stand(t, c, "the coroutine at " c " of task " id)
+        check_coroutine_words(t, c, "the coroutine at " c " of task " id)
     }
 }
 
-function coroutine_words_stand(t, c, name) {
+function check_coroutine_words(t, c, name) {
     if ((t, c) in is_active) {
         if (w(c + 1) == 0) breaks(name " is active and has to have a parent, and its word 1 is 0")
     } else if (w(c + 1) != 0) breaks(name " is not active and has no parent, and its word 1 is " w(c + 1))
@@ -384,15 +384,15 @@ function coroutine_words_stand(t, c, name) {
 
 # ---- queued packets
 
-function queues_stand(    i, t, p, before) {
+function check_queues(    i, t, p, before) {
     for (i = 1; i <= tasks; i++) {
         t = node["chain", i]
-        queue_stands("queue " t, w(t + 1))
+        check_queue("queue " t, w(t + 1))
     }
-    queue_stands("clock", -1)
-    queue_stands("keyboard", -2)
-    queue_stands("output", -3)
-    if (residents) queue_stands("pending", 103)
+    check_queue("clock", -1)
+    check_queue("keyboard", -2)
+    check_queue("output", -3)
+    if (residents) check_queue("pending", 103)
     for (i = 2; i <= nodes["clock"]; i++) {
         p = node["clock", i]
         before = node["clock", i - 1]
@@ -409,17 +409,17 @@ function queues_stand(    i, t, p, before) {
 }
 
 # The packets of the queue of a task, a device or the pending reads, by number.
-function queue_stands(list, queue,    i, p, name) {
+function check_queue(list, queue,    i, p, name) {
     for (i = 1; i <= nodes[list]; i++) {
         p = node[list, i]
         name = "the packet at " p " on " name_of[list]
         lodged(p, name)
         if (residents && p == 271) {
-            key_packet_stands(queue, name)
+            check_key_packet(queue, name)
             continue
         }
-        if (reporter && p == 310) fault_packet_stands(queue, name)
-        sender_stands(queue, w(p + 1), name)
+        if (reporter && p == 310) check_fault_packet(queue, name)
+        check_sender(queue, w(p + 1), name)
     }
 }
 
@@ -430,7 +430,7 @@ function lodged(p, name,    b) {
     if (block_free[b]) breaks(name " has to have its words 0 to 4 among the data of a used block, and " block_name(b) " has them")
 }
 
-function key_packet_stands(queue, name) {
+function check_key_packet(queue, name) {
     if (queue == 3) {
         if (w(272) != minus_2) breaks(name " is the key packet, which comes from the keyboard, and its sender is " w(272))
     } else if (queue == -2) {
@@ -440,13 +440,13 @@ function key_packet_stands(queue, name) {
     if (w(275) != 0) breaks(name " is the key packet, whose second result is 0, and it is " w(275))
 }
 
-function fault_packet_stands(queue, name) {
+function check_fault_packet(queue, name) {
     if (queue != 2) breaks(name " is the fault packet, which is on the queue of task 2 or on none")
     if (w(312) != 40) breaks(name " is the fault packet, which has the type 40, and it has " w(312))
     if (w(313) != 0 || w(314) != 0) breaks(name " is the fault packet, whose results are 0, and they are " w(313) " and " w(314))
 }
 
-function sender_stands(queue, sender, name) {
+function check_sender(queue, sender, name) {
     if (queue < 0) {
         if (!is_guest(sender)) breaks(name " has to be from a guest that is there, and its sender is " sender_name(sender))
     } else if (queue != 103 && is_guest(queue)) return
@@ -456,7 +456,7 @@ function sender_stands(queue, sender, name) {
 
 # ---- the words of the residents that are of no list
 
-function resident_words_stand(    i) {
+function check_resident_words(    i) {
     if (!residents) return
     if (!key_queued) {
         if (w(272) != minus_2)
@@ -502,7 +502,7 @@ function first_runs(    i, t, id, first) {
     }
 }
 
-function registers_stand(    i) {
+function check_registers(    i) {
     if (is_guest(running)) return
     for (i = 1; i <= 6; i++)
         if (value[i] != 0)
@@ -513,7 +513,7 @@ function is_unreported(t) {
     return w(t + 21) >= 1 && w(t + 21) < 256
 }
 
-function faults_stand(    i, t, unreported, sender) {
+function check_faults(    i, t, unreported, sender) {
     if (!reporter) return
     for (i = tasks; i >= 1; i--) if (is_unreported(node["chain", i])) unreported = w(node["chain", i] + 1)
     if (!fault_queued && unreported)
@@ -526,7 +526,7 @@ function faults_stand(    i, t, unreported, sender) {
         breaks("the fault packet at 310 is from " sender_name(sender) ", which has no fault that is not reported yet")
 }
 
-function console_stands() {
+function check_console() {
     if (residents && finished && key_queued)
         breaks("the line of the console is finished, and the key packet at 271 is still on a queue")
     if (residents && !finished && !key_queued)
@@ -537,7 +537,7 @@ function console_stands() {
     if (!residents && (finished || console_size > 0)) breaks("there are no residents, and the CONSOLE line is not \"CONSOLE 0 :\"")
 }
 
-function shell_stands(    i, open) {
+function check_shell(    i, open) {
     for (i = 1; i <= streams; i++) if (stream_number[i] == 17) open = 1
     if (open && mode != 3) breaks("stream 17 is open, and the shell types no file: its mode is " mode)
     if (!open && mode == 3) breaks("the shell types a file, and stream 17 is not open")
@@ -547,15 +547,15 @@ function shell_stands(    i, open) {
     if (!residents && (mode != 0 || shell_size > 0)) breaks("there are no residents, and the SHELL line is not \"SHELL 0 0 :\"")
 }
 
-function disc_stands(    i, n) {
+function check_disc(    i, n) {
     if (files > 64) breaks("the disc has " files " files, and it has 64 at most")
     for (i = 1; i <= files; i++) n += int((file_size[i] + 511) / 512)
     if (n > 4096) breaks("the files take " n " sectors of 512 bytes, and the disc has 4096")
-    for (i = 1; i <= streams; i++) stream_stands(i, stream_number[i], stream_file[i], stream_position[i])
+    for (i = 1; i <= streams; i++) check_stream(i, stream_number[i], stream_file[i], stream_position[i])
     if (!residents && streams > 0) breaks("there are no residents, and stream " stream_number[1] " is open")
 }
 
-function stream_stands(i, k, name, position,    bytes, j) {
+function check_stream(i, k, name, position,    bytes, j) {
     if (!(name in number_of_file)) breaks("stream " k " is open on " name ", and there is no such file")
     bytes = file_size[number_of_file[name]]
     if (position > bytes) breaks("stream " k " is at " position " in " name ", which has " count(bytes, "byte", "bytes"))
@@ -568,7 +568,7 @@ function stream_stands(i, k, name, position,    bytes, j) {
     if (k == 17) breaks("stream 17, that of the shell, writes " name ", and it only reads")
 }
 
-function pipes_stand(    i, k, name) {
+function check_pipes(    i, k, name) {
     for (i = 1; i <= pipes; i++) {
         k = pipe_number[i]
         if (!pipe_reading[i] && !pipe_writing[i]) breaks("pipe " k " has no end that is open")
@@ -585,35 +585,35 @@ function pipes_stand(    i, k, name) {
     if (pipes > 0 && version == 1) breaks("in version 1 there are no pipes, and pipe " pipe_number[1] " is there")
 }
 
-function ahead_stands() {
+function check_ahead() {
     if (length(ahead) > 256) breaks(length(ahead) / 2 " bytes are typed ahead, and 128 is the most")
 }
 
 # ---- all rules, in their order
 
-function kernel_stands() {
-    root_stands()
+function check_kernel() {
+    check_root()
     blocks_tile()
     lists_end()
     words_are_apart()
-    modules_stand()
-    tasks_stand()
-    table_stands()
+    check_modules()
+    check_tasks()
+    check_table()
     running_is_there()
-    coroutines_stand()
-    heads_stand()
+    check_coroutines()
+    check_heads()
     if (residents) has_block(201, reporter ? 114 : 86, "task 1, with all words of the residents after it,")
-    queues_stand()
-    resident_words_stand()
+    check_queues()
+    check_resident_words()
     numbers_agree()
     first_runs()
-    registers_stand()
-    faults_stand()
-    console_stands()
-    shell_stands()
-    disc_stands()
-    pipes_stand()
-    ahead_stands()
+    check_registers()
+    check_faults()
+    check_console()
+    check_shell()
+    check_disc()
+    check_pipes()
+    check_ahead()
 }
 
 # ---- the machine in words

@@ -292,6 +292,6 @@ END {
     if (refused) exit 1
     lines = NR - ended
     if (at != 14) refuse(lines + 1, "expected " expected_here() ", and the text ends", 3)
-    if (!bare) kernel_stands()
+    if (!bare) check_kernel()
     summary()
 }
