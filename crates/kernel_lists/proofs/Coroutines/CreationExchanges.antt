@@ -48,7 +48,7 @@ create-exchange s v t k c entry u h made =
     }
   where
     built-lists : Built s t (map address_of k.list) k.active
-    valid = held-coroutines s t k.active k.list h.coroutines
+    built-lists = held-coroutines s t k.active k.list h.coroutines
 
     after : AfterTake s made.taken (highest u) c
     after = after_take s made.taken (highest u) c h.coroutines.tiled made.block
