@@ -53,7 +53,7 @@ all-owned s c p = each (tasks_in s) (some-tasks s c) ((of-tasks s (AreValidCorou
     each [] some valid-coroutines heads = tt
     each (t ∷ ts) some valid-coroutines heads = (
       record {
-        valid-coroutines = valid-coroutines.0;
+        valid = valid-coroutines.0;
         parents = parents-tell s t (λ e. omega (arith, e, some.0)) (coroutines_in s t) (all-each (Frame s t) (HasParent s t) (λ k f. f.1) (coroutines_in s t) (frames-all s t heads.0.coroutines));
       },
       each ts some.1 valid-coroutines.1 heads.1,

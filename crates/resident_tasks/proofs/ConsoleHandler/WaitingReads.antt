@@ -82,7 +82,7 @@ module _ (s : List ℕ) (tells : List ℕ → Type 0) (room : ℕ) (l : Lists) (
           knows = subst (λ ps. Knows tells (read_taken_from ps l).lists) (sym empty) k.knows;
           words = subst (λ ps. s ≡ words_read_from ps s) (sym empty) refl;
           request = subst (λ ps. None ≡ first_request s ps) (sym empty) refl;
-          there = tt;
+          has_request = tt;
           owns = tt;
         }
 

@@ -61,7 +61,7 @@ module _ (s : List ℕ) (tells : List ℕ → Type 0) (room : ℕ) (l : Lists) (
           words = subst (λ ps. s ≡ words_taken_from ps s l) (sym empty) refl;
           runs = subst (λ ps. RunsResident (taken_from ps l).lists) (sym empty) r.runs;
           request = subst (λ ps. None ≡ first_request s ps) (sym empty) refl;
-          there = tt;
+          has_request = tt;
         }
 
     pub none-noted : (events : Option (List KernelEvent)) (f : Bool) → NotesAll events events f f (taken l).events
