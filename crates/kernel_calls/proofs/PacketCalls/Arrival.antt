@@ -140,7 +140,7 @@ module _ (s : List ℕ) (base : Lists) (at : Place) (p : QueuedPacket) (front ba
   -- the links and words of the packet are written, and its other words are kept
   pub arrived-changed : (t : List ℕ) (links ws kept : Pairs) → Splits ((link, p.address) ∷ packet_words p (first_packet back)) kept (links ++ ws) → Holds s kept
       → t ≡ written (st (front ++ p ∷ back) ++ links) (written ws s) → IsChanged s t m []
-  arrived-changed t links ws kept split held is_t =
+  arrived-changed t links ws kept split kept-held is_t =
       exchange-kept s t base m _ _ kept (st (front ++ p ∷ back) ++ (links ++ ws)) holds v size moved
-      (splits-both (st (front ++ p ∷ back)) [] (st (front ++ p ∷ back)) _ kept (links ++ ws) (splits-all (st (front ++ p ∷ back))) split) held
+      (splits-both (st (front ++ p ∷ back)) [] (st (front ++ p ∷ back)) _ kept (links ++ ws) (splits-all (st (front ++ p ∷ back))) split) kept-held
       (is_t ∙ sym (written-append (st (front ++ p ∷ back) ++ links) ws s) ∙ ap (λ z. written z s) (append_assoc (st (front ++ p ∷ back)) links ws))

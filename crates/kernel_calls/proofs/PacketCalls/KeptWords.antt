@@ -17,7 +17,7 @@ use Rattle.kernel_model.specs.KernelRecord.ValidLists.{AreValid}
 -- of the new words some are kept as they are, and the others are written
 pub exchange-kept : (s t : List ℕ) (l m : Lists) (old new kept all : Pairs) → Holds s (owned l) → AreValid m → length s ≡ m.size → Exchange (owned l) (owned m) old new
     → Splits new kept all → Holds s kept → t ≡ written all s → IsChanged s t m []
-exchange-kept s t l m old new kept all holds valid size x split held is =
+exchange-kept s t l m old new kept all holds valid size x split kept-held is =
     let long : length t ≡ length s = ap length is ∙ length-written all s in
     let whole : Exchange (owned l) (owned m) old (all ++ kept) =
     exchange-as (owned l) (owned m) old new (all ++ kept) x
@@ -32,7 +32,7 @@ exchange-kept s t l m old new kept all holds valid size x split held is =
           record {
             holds = holds;
             exchange = whole;
-            there = held;
+            there = kept-held;
             apart = valid.owns.apart;
             inside = λ a some. omega (arith, valid.owns.inside a some, size);
             unowned = λ a some. absurd (omega (arith, some));

@@ -53,7 +53,7 @@ fields-valid l v = all-each (IsTask l) (λ t. IsField t.field) (λ t i. i.field)
 module _ (s : List ℕ) (base : Lists) (at : Place) (q : QueuedPacket) (ws kept : Pairs)
     (holds : Holds s (owned base)) (long : length s ≡ base.size) (distinct : IsApart (map task_id base.tasks)) (has : HasPlace base at)
     (v : AreValid (with_queue at (queue_of at base ++ q ∷ []) base)) (some : AllByRecursion (λ z. 0 < z.address) (queue_of at base ++ q ∷ []))
-    (end : TakesAtEnd at) (fields : AllByRecursion (λ t. IsField t.field) base.tasks) (own : AreOfPacket q.address ws) (are_set : AreSet q ws kept) (held : Holds s kept) where
+    (end : TakesAtEnd at) (fields : AllByRecursion (λ t. IsField t.field) base.tasks) (own : AreOfPacket q.address ws) (are_set : AreSet q ws kept) (kept-held : Holds s kept) where
   abbrev ps : List QueuedPacket
   ps = queue_of at base
 
@@ -75,7 +75,7 @@ module _ (s : List ℕ) (base : Lists) (at : Place) (q : QueuedPacket) (ws kept 
   pub end-changed : (t : List ℕ) (due : ℕ) → t ≡ enqueued (written ws s) (queue_for base at) q.address due → IsChanged s t (with_queue at (ps ++ q ∷ []) base) []
   end-changed t due is =
       arrived-changed s base at q ps [] holds long distinct has whole v some t
-      ((link_behind (head_of (queue_for base at)) ps, q.address) ∷ (q.address, 0) ∷ []) ws kept (are_set (link_behind (head_of (queue_for base at)) ps)) held
+      ((link_behind (head_of (queue_for base at)) ps, q.address) ∷ (q.address, 0) ∷ []) ws kept (are_set (link_behind (head_of (queue_for base at)) ps)) kept-held
       (is
       ∙ enqueued-end (written ws s) base at ps q due end has fields queue-held
       (subst (λ z. Holds (written ws s) (state_pairs base at z)) (append-nil ps) (state-held s base at q ps [] holds long distinct has whole v some ws own)))
@@ -86,7 +86,7 @@ module _ (s : List ℕ) (base : Lists) (at : Place) (q : QueuedPacket) (ws kept 
 module _ (s : List ℕ) (l : Lists) (q : QueuedPacket) (ws kept : Pairs) (h : HoldsLists s l)
     (v : (front back : List QueuedPacket) → l.clock ≡ front ++ back → arrived Clock q l.clock ≡ front ++ q ∷ back → AreValid (with_queue Clock (front ++ q ∷ back) l))
     (some : (front back : List QueuedPacket) → l.clock ≡ front ++ back → AllByRecursion (λ z. 0 < z.address) (front ++ q ∷ back))
-    (own : AreOfPacket q.address ws) (held : Holds s kept)
+    (own : AreOfPacket q.address ws) (kept-held : Holds s kept)
     (are_set : (link next : ℕ) → Splits ((link, q.address) ∷ packet_words q next) kept ((q.address + 4, q.last) ∷ (link, q.address) ∷ (q.address, next) ∷ ws))
     (clock : HeldQueue s clock_head l.clock) where
   -- where it comes in, by the store before words were set
@@ -115,4 +115,4 @@ module _ (s : List ℕ) (l : Lists) (q : QueuedPacket) (ws kept : Pairs) (h : Ho
       subst (λ z. IsChanged s t (with_queue Clock z l) []) (sym x.becomes)
       (arrived-changed s l Clock q x.front x.back h.holds h.size h.valid.tasks.distinct tt x.is (v x.front x.back x.is x.becomes) (some x.front x.back x.is) t
       ((q.address + 4, q.last) ∷ (link_behind clock_head x.front, q.address) ∷ (q.address, first_packet x.back) ∷ []) ws kept
-      (are_set (link_behind clock_head x.front) (first_packet x.back)) held (is ∙ x.words.words))
+      (are_set (link_behind clock_head x.front) (first_packet x.back)) kept-held (is ∙ x.words.words))
