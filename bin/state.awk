@@ -65,6 +65,10 @@ function read_told(line, w, done, call, i) {
             way_step[w[2], w[3]] = w[4]; way_from[w[2], w[3]] = w[5]; way_goal[w[2], w[3]] = w[6]; is_led[w[2], w[3]] = w[7]
             for (i = 1; i <= 7; i++) sub(/^[^ ]+ /, "", line)
             way_by[w[2], w[3]] = line
+        } else if (w[1] == "beyond") {
+            beyond_stack[w[2]] = w[3]; beyond_step[w[2]] = w[4]; beyond_at[w[2]] = w[5]; beyond_first[w[2]] = w[6]; beyond_last[w[2]] = w[7]
+            for (i = 1; i <= 7; i++) sub(/^[^ ]+ /, "", line)
+            beyond_by[w[2]] = line
         } else if (w[5] == "call") call = w[6]
         else if (w[5] == "refused") {
             sub(/^.* refused code /, "code ", line)
@@ -231,6 +235,28 @@ function tell_stack(t, p, a, indent, b, c, from, end) {
     if (p < from || p >= store || p <= end && (a == "" || a <= end || a > p + 300)) return
     print indent "the stack of " (c ? "coroutine " c " of " : "") task_name(t) " ends at word " end ", and P is " p ": its stack is too small" \
         (p > end + 1000 ? ", or a recursion does not end" : "")
+}
+
+# The block in which a word is, in words.
+function block_of_word(a, i, b) {
+    for (i = 1; i <= blocks; i++) {
+        split(block[i], b, " ")
+        if (a >= b[1] && a < b[1] + b[2]) return "the block from " b[1] " to " b[1] + b[2] - 1 ": " block_words(b[1] + 0, b[3])
+    }
+    return "no block"
+}
+
+# The first frame that each task wrote beyond its stack into another block.
+function tell_beyond(i, t, c, one) {
+    for (i = 1; i <= tasks; i++) {
+        t = id[i]
+        if (!(t in beyond_stack)) continue
+        c = beyond_stack[t] + 1
+        one = beyond_first[t] == beyond_last[t]
+        print "the stack of " (c in coroutine_of ? "coroutine " c " of " : "") task_name(t) " is too small: in step " beyond_step[t] ", " beyond_by[t] " at " \
+            place_of(beyond_at[t]) ", wrote " (one ? "word " beyond_first[t] : "words " beyond_first[t] " to " beyond_last[t]) " beyond it, in " \
+            block_of_word(beyond_first[t])
+    }
 }
 
 function tell_fault(t, code, a, p, indent) {
@@ -485,6 +511,7 @@ function tell_state(i) {
     print why()
     where()
     what_word()
+    tell_beyond()
     tell_stuck()
     print regs
     if (bare && 0 in dead_at) print "PC is 0 since step " dead_at[0] (why_dead[0] == "" ? "" : ": " why_dead[0]) "; the machine stops"
