@@ -1,16 +1,21 @@
 -- Rings that keep the last of what comes, and the last item of a list.
-use Rattle.std.proofs.Common.{◌≡◌, ℕ, ◌+◌, ◌-◌, ◌≤◌, Some, List, [], ◌∷◌, ◌++◌, length, take, drop, sym, ap, ◌∙◌, arith, length-append, length-drop}
+use Rattle.std.proofs.Common.{◌≡◌, ℕ, ◌+◌, ◌-◌, ◌≤◌, Some, List, [], ◌∷◌, ◌++◌, length, take, drop, sym, ap, ◌∙◌, arith, append-nil, length-append, length-drop}
 use Rattle.std.proofs.lemmas.List.{drop-append-le, drop-drop, take_at}
 use Rattle.std.proofs.lemmas.Option.{MatchOption-at_some}
-use Rattle.circular_buffer.specs.Buffer.{keep_last, last_item}
+use Rattle.circular_buffer.specs.Buffer.{Buffer, buffer, keep_last, last_item}
 use Rattle.circular_buffer.proofs.Items.{pops_last}
 use Rattle.circular_buffer.proofs.Places.{slice_get-last}
+use Rattle.debugger.specs.UndoJournal.Private.Rings.{ring_with}
 
 module _ {X : Type 0} where
   -- ---- what a ring keeps
 
   pub keep_last_all : (n : ℕ) (xs : List X) → length xs ≤ n → keep_last n xs ≡ xs
   keep_last_all n xs h = let none : length xs - n ≡ 0 = omega arith in ap (λ k. drop k xs) none
+
+  pub ring_with-none : (ring : Buffer X) → length ring.items ≤ ring.capacity → ring_with ring [] ≡ ring
+  ring_with-none ring h =
+      ap (λ l. buffer (keep_last ring.capacity l) ring.capacity) (append-nil ring.items) ∙ ap (λ l. buffer l ring.capacity) (keep_last_all ring.capacity ring.items h)
 
   pub length-keep_last-le : (n : ℕ) (xs : List X) → length (keep_last n xs) ≤ n
   length-keep_last-le n xs = omega (arith, length-drop (length xs - n) xs)

@@ -1,11 +1,16 @@
 // Former words: what stood at an address before another word came there.
-ghost use Rattle.std.specs.Prelude.{◌≡◌, ◌-◌, ◌^◌, ◌<◌, ◌≤◌, drop, length, take};
+ghost use Rattle.std.specs.Prelude.{◌≡◌, ◌-◌, ◌^◌, ◌<◌, ◌≤◌, drop, length, slice_range, take};
+ghost use Rattle.std.specs.List.{range_with_len};
+ghost use Rattle.std.specs.Str.{bytes_eq};
 ghost use Rattle.circular_buffer.specs.Buffer.{buffer};
 ghost use Rattle.debugger.specs.UndoJournal.FormerWords.{addresses_of, former_at, former_words, with_new_word, with_new_words, words_before};
 ghost use Rattle.debugger.specs.UndoJournal.Private.Rings.{ring_with};
 
 use circular_buffer::HeapCircularBuffer;
 use word_store::{Store, word};
+
+/// So many words are compared at once.
+const BLOCK: u32 = 64;
 
 /// A word, and where it stood.
 #[derive(Drop)]
@@ -40,7 +45,7 @@ pub(crate) fn note_word(
     1
 }
 
-/// The same at all addresses.
+/// The same at all addresses. Blocks of words that are the same are passed over.
 pub(crate) fn note_all_words(
     latest: &mut Store,
     store: &Store,
@@ -55,11 +60,54 @@ pub(crate) fn note_all_words(
     ensures count { result ≡ length (former_words latest.old store.now (addresses_of store.now)) }
     ensures most { result < 2 ^ 32 }
 {
+    let blocks = store.size() / BLOCK;
     let mut count = 0;
-    for address in 0..store.size() {
+    for block in 0..blocks {
+        count += note_block(latest, store, former, block * BLOCK, (block + 1) * BLOCK);
+    }
+    count + note_block(latest, store, former, blocks * BLOCK, store.size())
+}
+
+/// The same at the addresses from the first one up to the end.
+fn note_block(
+    latest: &mut Store,
+    store: &Store,
+    former: &mut HeapCircularBuffer<FormerWord>,
+    first: u32,
+    end: u32,
+) -> usize
+    requires sizes { length latest.old ≡ length store.now }
+    requires order { first ≤ end }
+    requires inside { end ≤ length store.now }
+    requires room { length former.old.items ≤ former.old.capacity }
+    ensures latest { latest.new ≡ with_new_words latest.old store.now (range_with_len first (end - first)) }
+    ensures former { former.new ≡
+        ring_with former.old (former_words latest.old store.now (range_with_len first (end - first))) }
+    ensures count { result ≡ length (former_words latest.old store.now (range_with_len first (end - first))) }
+    ensures most { result ≤ end - first }
+{
+    if is_same_block(latest, store, first, end) {
+        return 0;
+    }
+    let mut count = 0;
+    for address in first..end {
         count += note_word(latest, store, former, address);
     }
     count
+}
+
+// Whether both have the same words from the first address up to the end.
+fn is_same_block(latest: &Store, store: &Store, first: u32, end: u32) -> bool
+    requires order { first ≤ end }
+    requires latest { end ≤ length latest.now }
+    requires store { end ≤ length store.now }
+    ensures { result ≡ bytes_eq (slice_range latest.now first end) (slice_range store.now first end) }
+{
+    let n = end - first;
+    match (latest.words(first, n), store.words(first, n)) {
+        (Some(old), Some(new)) => old == new,
+        _ => false,
+    }
 }
 
 /// The same at these addresses, one after another.

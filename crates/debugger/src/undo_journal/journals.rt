@@ -10,7 +10,7 @@ use byte_streams::WantMemory;
 use circular_buffer::HeapCircularBuffer;
 use std::alloc::Global;
 use std::marker::Model;
-use word_store::{Store, word};
+use word_store::Store;
 
 /// The words of a store that are now, and past: the words that were before, each time with a value that was noted beside them. Past has
 /// the newest members, at most so many, in which at most so many words change. A journal is seen as the words that are now, past with
@@ -148,12 +148,9 @@ impl<T: Drop> Journal<T> {
 fn copy_of(alloc: Global, store: &Store) -> Result<Store, WantMemory>
     ensures { IfOk result (λ s. s ≡ store.now) }
 {
-    let size = store.size();
-    let Ok(mut copy) = Store::new(alloc, size) else {
+    let Ok(mut copy) = Store::new(alloc, store.size()) else {
         return Err(WantMemory);
     };
-    for a in 0..size {
-        copy.set(a, word(store, a));
-    }
+    copy.copy_from(store);
     Ok(copy)
 }
