@@ -103,6 +103,7 @@ function expected_here() {
 
 function head_line() {
     if (at == 1) {
+        if ($0 ~ /^TRIPOS [12]$/) refuse(NR, "this is a session, which ./tripos run reads; ./tripos save makes a saved machine of one", 1)
         if ($0 != "TRIPOS-IMAGE 1" && $0 != "TRIPOS-IMAGE 2") expect(expected[1])
         version = substr($0, 14) + 0
         most_words = version == 1 ? 262144 : 4194304
