@@ -1,24 +1,24 @@
 // Assembly text, and the module text that it makes.
 
 pub mod assembly;
-mod directives;
+pub mod directives;
 mod encode;
-mod errors;
+pub mod errors;
 mod hunks;
 pub mod instruction_law;
 mod instructions;
-mod labels;
+pub mod labels;
 pub mod laws;
-mod numbers;
-mod operands;
-mod parts;
-mod pieces;
-mod places;
-mod read;
+pub mod numbers;
+pub mod operands;
+pub mod parts;
+pub mod pieces;
+pub mod places;
+pub mod read;
 mod sinks;
-mod statements;
-mod survey;
-mod tables;
+pub mod statements;
+pub mod survey;
+pub mod tables;
 
 pub use assembly::assemble;
 use errors::LineError;

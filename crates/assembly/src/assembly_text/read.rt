@@ -86,8 +86,8 @@ fn statement_named<'a>(name: &[u8], operands: Operands<'a>) -> Result<Statement<
     }
 }
 
-// The byte of an instruction's name, and the form of its operand.
-fn instruction_named(name: &[u8]) -> Option<(u8, Form)>
+/// The byte of an instruction's name, and the form of its operand.
+pub fn instruction_named(name: &[u8]) -> Option<(u8, Form)>
     requires { IsTrue (has_name_form name.now) }
     ensures { result ≡ instruction_named name.now }
 {

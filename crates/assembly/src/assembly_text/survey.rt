@@ -79,9 +79,9 @@ pub fn refused(n: u32, error: LineError) -> TextEnd
     }
 }
 
-// A line may come next where it repeats no label and the hunk stays within its limit.
+/// A line may come next where it repeats no label and the hunk stays within its limit.
 #[tactic(auto, unfolding(crate::specs::AssemblyText::Survey::admitted))]
-fn admit(known: &Surveyed, line: &Line) -> Result<(), LineError>
+pub fn admit(known: &Surveyed, line: &Line) -> Result<(), LineError>
     requires low { known.now.offset ≤ 262144 }
     requires few { known.now.pairs ≤ 65536 }
     ensures value { result ≡ admitted (layout_of known.now) line.now }
@@ -109,8 +109,8 @@ fn repeats(known: &Surveyed, line: &Line) -> bool
     }
 }
 
-// Adds a line.
-fn add<'a>(known: &mut Surveyed<'a>, line: &Line<'a>) -> Result<(), AllocError>
+/// Adds a line.
+pub fn add<'a>(known: &mut Surveyed<'a>, line: &Line<'a>) -> Result<(), AllocError>
     requires low { known.old.offset ≤ 262144 }
     requires few { known.old.pairs ≤ 65536 }
     ensures { OnOk result (layout_of known.new ≡ with_line (layout_of known.old) line.now) }

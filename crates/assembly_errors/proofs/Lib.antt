@@ -1,0 +1,3 @@
+mod DraftedLines
+mod FollowedLeads
+mod FirstErrors

@@ -1,0 +1,4 @@
+pub mod Drafts
+pub mod Findings
+pub mod Leads
+pub mod Refusals
