@@ -1,3 +1,5 @@
 mod DraftedLines
-mod FollowedLeads
 mod FirstErrors
+mod FollowedLeads
+mod LikeNames
+mod WiderNames

@@ -37,7 +37,7 @@ pub struct Finding<'a> {
 #[derive(Drop)]
 pub struct Definition<'a> {
     /// The label.
-    pub name: Label<'a>,
+    pub name: LineText<'a>,
     /// The number of the line.
     pub number: u32,
 }
@@ -143,8 +143,11 @@ fn add_definition<'a>(
     ensures { OnOk result
         (definitions.new.items ≡ definitions_with n definitions.old.items label.entry) }
 {
-    if let Some(name) = label {
-        definitions.push(Definition { name, number: n })?;
+    if let Some(label) = label {
+        definitions.push(Definition {
+            name: LineText::new(label.name()),
+            number: n,
+        })?;
     }
     Ok(())
 }
@@ -222,7 +225,7 @@ fn add_loose_label<'a>(draft: &mut Draft<'a>, n: u32, text: &'a [u8]) -> Result<
     };
     define(&mut draft.known.labels, label.name(), place)?;
     draft.definitions.push(Definition {
-        name: label,
+        name: LineText::new(label.name()),
         number: n,
     })?;
     Ok(())
@@ -248,8 +251,8 @@ fn label_before_colon(part: &[u8]) -> Option<Label<'_>>
     }
 }
 
-// Where the first colon is.
-fn first_colon(part: &[u8]) -> Option<usize>
+/// Where the first colon is.
+pub fn first_colon(part: &[u8]) -> Option<usize>
     ensures { result ≡ position (λ c. c == 58) part.now }
 {
     part.iter().position(|c| *c == b':')

@@ -34,8 +34,8 @@ fn read_parts(parts: &[u8]) -> Result<Line<'_>, LineError>
     }
 }
 
-// What stands before the colon of a part that ends with one.
-fn before_colon(part: &[u8]) -> Option<&[u8]>
+/// What stands before the colon of a part that ends with one.
+pub fn before_colon(part: &[u8]) -> Option<&[u8]>
     ensures { option_copied result ≡ before_colon part.now }
 {
     part.strip_suffix(b":")
