@@ -66,7 +66,7 @@ byte_then column byte rest =
     if byte == 39 then quote_remark column (quoted_character rest) else
     if byte == 47 && starts_with nat_eq rest (47 ∷ []) then said_of column (codes "a comment begins with ; and not with //" ∷ []) else
     if byte == 194 && starts_with nat_eq rest (160 ∷ []) then
-      said_of column (codes "a no-break space is here, and only plain spaces may be between the parts of a line" ∷ [])
+    said_of column (codes "a no-break space is here, and only plain spaces may be between the parts of a line" ∷ [])
     else
     if byte == 226 && begins_with_quote rest then said_of column (codes "a typographic quote is here, and no part of a line has one" ∷ []) else
     sign_remark column byte
@@ -84,8 +84,8 @@ begins_with_mark n code = n == 1 && starts_with nat_eq code (239 ∷ 187 ∷ 191
 abbrev pub byte_remark : ℕ → List ℕ → ℕ → Remark
 byte_remark n code place =
     if begins_with_mark n code then
-      said_of
-      (place + 1)
-      (codes "the text begins with a byte order mark, three bytes that an editor has put there; " ∷ codes "it has to begin with its first line" ∷ [])
+    said_of
+    (place + 1)
+    (codes "the text begins with a byte order mark, three bytes that an editor has put there; " ∷ codes "it has to begin with its first line" ∷ [])
     else
     first_byte_remark (place + 1) (drop place code)

@@ -44,7 +44,7 @@ third_remark None = no_form_remark
 abbrev pub global_label_remark : Part → Part → ThreeParts → Remark
 global_label_remark first second operands =
     if not (is_label_part second.text) then
-      no_label_remark second.column (codes "after GLOBAL " ∷ first.text ∷ codes " comes a label; " ∷ []) second.text
+    no_label_remark second.column (codes "after GLOBAL " ∷ first.text ∷ codes " comes a label; " ∷ []) second.text
     else
     third_remark operands.third
 
@@ -56,9 +56,9 @@ no_global_remark first = no_number_remark first.column (codes "after GLOBAL come
 abbrev pub global_order_remark : Part → Part → Remark
 global_order_remark first second =
     if is_label_part first.text && is_number_part second.text then
-      said_of
-      first.column
-      (codes "after GLOBAL comes the number first, and then the label: GLOBAL " ∷ second.text ∷ codes " " ∷ first.text ∷ [])
+    said_of
+    first.column
+    (codes "after GLOBAL comes the number first, and then the label: GLOBAL " ∷ second.text ∷ codes " " ∷ first.text ∷ [])
     else
     no_global_remark first
 
@@ -95,27 +95,39 @@ abbrev pub takes_number : Takes → Bool
 takes_number Boundary = true
 takes_number takes = is_number takes
 
+-- a name where a number is due
+abbrev pub name_for_number_remark : Takes → Part → Part → Remark
+name_for_number_remark takes name operand =
+    said_of
+    operand.column
+    (codes "after " ∷ name.text ∷ codes " comes " ∷ operand_text takes ∷ codes ", and " ∷ operand.text
+    ∷ codes " is a name; a .s text may have it, where SET gives it a number" ∷ [])
+
+-- another part where a number is due
+abbrev pub number_due_remark : Takes → Part → Part → Remark
+number_due_remark takes name operand =
+    no_number_remark operand.column (codes "after " ∷ name.text ∷ codes " comes " ∷ operand_text takes ∷ codes "; " ∷ []) operand.text
+
 -- an operand that is no number
 abbrev pub wrong_number_remark : Takes → Part → Part → Remark
 wrong_number_remark takes name operand =
-    if is_label_part operand.text then
-      said_of
-      operand.column
-      (codes "after " ∷ name.text ∷ codes " comes " ∷ operand_text takes ∷ codes ", and " ∷ operand.text
-      ∷ codes " is a name; a .s text may have it, where SET gives it a number" ∷ [])
-    else
-    no_number_remark operand.column (codes "after " ∷ name.text ∷ codes " comes " ∷ operand_text takes ∷ codes "; " ∷ []) operand.text
+    if is_label_part operand.text then name_for_number_remark takes name operand else number_due_remark takes name operand
 
--- an operand that is no label
+-- another part where a label is due
 abbrev pub wrong_label_remark : Part → Part → Remark
 wrong_label_remark name operand = no_label_remark operand.column (codes "after " ∷ name.text ∷ codes " comes a label; " ∷ []) operand.text
+
+-- the operands of a name that takes a number
+abbrev pub number_remark : Takes → Part → Part → ThreeParts → Remark
+number_remark takes name first operands =
+    if is_number_part first.text then more_by name operands.second else wrong_number_remark takes name first
 
 -- the operands of a name that takes one
 abbrev pub one_operand_remark : Takes → Part → Part → ThreeParts → Remark
 one_operand_remark takes name first operands =
-    if takes_number takes then (if not (is_number_part first.text) then wrong_number_remark takes name first else more_by name operands.second) else
-    if not (is_label_part first.text) then wrong_label_remark name first else
-    more_by name operands.second
+    if takes_number takes then number_remark takes name first operands else
+    if is_label_part first.text then more_by name operands.second else
+    wrong_label_remark name first
 
 -- an operand where none may be
 abbrev pub no_operand_remark : Part → Part → Remark
@@ -132,11 +144,17 @@ missing_remark takes name =
     if is_global takes then said_of name.end (codes "after GLOBAL a number from 1 to 1000 and a label are missing" ∷ []) else
     said_of name.end (codes "after " ∷ name.text ∷ codes " " ∷ operand_text takes ∷ codes " is missing" ∷ [])
 
+-- nothing is after a name
+abbrev pub is_nothing : Takes → Bool
+is_nothing Nothing = true
+is_nothing takes = false
+
 -- operands of a name that takes this
 abbrev pub given_remark : Takes → Part → Part → ThreeParts → Remark
-given_remark Nothing name first operands = no_operand_remark name first
-given_remark Global name first operands = global_remark first operands
-given_remark takes name first operands = one_operand_remark takes name first operands
+given_remark takes name first operands =
+    if is_nothing takes then no_operand_remark name first else
+    if is_global takes then global_remark first operands else
+    one_operand_remark takes name first operands
 
 -- operands of a name that takes this, by whether there is one
 abbrev pub operand_by : Takes → Part → ThreeParts → Option Part → Remark
@@ -153,9 +171,9 @@ operand_remark takes name operands = operand_by takes name operands operands.fir
 abbrev pub no_name_remark : Part → Remark
 no_name_remark name =
     if is_number_part name.text then
-      said_of
-      name.column
-      (codes "the name of an instruction or a directive is due here, and " ∷ name.text ∷ codes " is a number" ∷ [])
+    said_of
+    name.column
+    (codes "the name of an instruction or a directive is due here, and " ∷ name.text ∷ codes " is a number" ∷ [])
     else
     said_of name.column (codes "the name of an instruction or a directive is due here, and " ∷ name.text ∷ codes " is none" ∷ [])
 
@@ -178,10 +196,14 @@ abbrev pub named_remark : Part → ThreeParts → Remark
 named_remark name operands =
     if not (has_name_form name.text) then no_name_remark name else named_by name operands (taken_after name.text)
 
+-- a name and what follows it
+abbrev pub operands_remark : List ℕ → Part → List ℕ → Remark
+operands_remark code name rest = named_remark name (parts_from code rest)
+
 -- the parts after a label, if there is one
 abbrev pub statement_by : List ℕ → Option Part → List ℕ → Remark
 statement_by code None rest = no_form_remark
-statement_by code (Some name) rest = named_remark name (parts_from code rest)
+statement_by code (Some name) rest = operands_remark code name rest
 
 -- the parts after a label, if there is one
 abbrev pub statement_remark : List ℕ → List ℕ → Remark
@@ -206,7 +228,7 @@ ends_with_colon part = is_some (before_colon part)
 abbrev pub second_label_remark : List ℕ → Part → List ℕ → Remark
 second_label_remark code part left =
     if ends_with_colon part.text then
-      said_of part.column (codes "a line has one label at most; " ∷ part.text ∷ codes " may be on a line of its own" ∷ [])
+    said_of part.column (codes "a line has one label at most; " ∷ part.text ∷ codes " may be on a line of its own" ∷ [])
     else
     colon_remark code left
 
@@ -249,7 +271,7 @@ label_remark code part name rest =
 abbrev pub next_colon_remark : List ℕ → Part → Part → List ℕ → Remark
 next_colon_remark code part next left =
     if bytes_eq next.text (codes ":") && is_label_part part.text then
-      said_of next.column (codes "the colon is directly after its label: " ∷ part.text ∷ codes ":" ∷ [])
+    said_of next.column (codes "the colon is directly after its label: " ∷ part.text ∷ codes ":" ∷ [])
     else
     colon_remark code left
 

@@ -7,7 +7,7 @@ use Rattle.byte_streams.specs.Pieces.{joined}
 use Rattle.instruction_set.specs.InstructionTable.Table.{Entry, entry}
 use Rattle.assembly.specs.AssemblyText.LineText.{before_colon}
 use Rattle.assembly.specs.AssemblyText.Numbers.{is_from_to, number_of}
-use Rattle.assembly_errors.specs.FormWords.{is_label_part, no_form_remark, takes_number, unknown_remark}
+use Rattle.assembly_errors.specs.FormWords.{is_global, is_label_part, no_form_remark, takes_number, unknown_remark}
 use Rattle.assembly_errors.specs.NumberWords.{unsigned_part}
 use Rattle.assembly_errors.specs.Parts.{next_part, parts_from}
 use Rattle.assembly_errors.specs.Remarks.{Remark, said_of}
@@ -16,7 +16,7 @@ use Rattle.assembly_errors.specs.declared.name_words.NamedLine.{NamedLine}
 use Rattle.assembly_errors.specs.declared.name_words.TakingName.{TakingName}
 use Rattle.assembly_errors.specs.declared.parts.Part.{Part}
 use Rattle.assembly_errors.specs.declared.takes.Takes.{Takes}
-use Rattle.assembly_errors.specs.declared.takes.Takes.TheVariants.{Byte, BytePlus, Half, Word, DataByte, DataHalf, Boundary, Global}
+use Rattle.assembly_errors.specs.declared.takes.Takes.TheVariants.{BytePlus, Half, Word, DataByte, DataHalf, Boundary}
 
 -- ---- the name of a line
 
@@ -34,7 +34,7 @@ name_after code rest is_labelled = record {
 }
 
 -- the name of a line, its operands, and whether a label is before it
-abbrev pub named_line : List ℕ → NamedLine
+unfoldable pub named_line : List ℕ → NamedLine
 named_line code =
     if begins_with_label (next_part code code).part then name_after code (next_part code code).rest true else name_after code code false
 
@@ -52,9 +52,9 @@ plain_name_remark name = unknown_remark name (codes "there is no instruction and
 abbrev pub first_name_remark : Part → Part → Bool → Remark
 first_name_remark name first is_labelled =
     if not is_labelled && is_label_part name.text && stands_alone first.text then
-      said_of
-      name.column
-      (codes "there is no instruction and no directive " ∷ name.text ∷ codes "; a label has a colon after it: " ∷ name.text ∷ codes ": " ∷ first.text ∷ [])
+    said_of
+    name.column
+    (codes "there is no instruction and no directive " ∷ name.text ∷ codes "; a label has a colon after it: " ∷ name.text ∷ codes ": " ∷ first.text ∷ [])
     else
     plain_name_remark name
 
@@ -78,11 +78,15 @@ name_remark line = name_remark_by line line.name
 
 -- ---- a number out of range
 
+-- a part is a number within a range
+unfoldable pub holds_part : Takes → List ℕ → Bool
+holds_part takes part = option_map_or (is_within takes) (number_of part) false
+
 -- a line of data that holds the number
-abbrev pub wider_data : ℤ → Option TakingName
-wider_data n =
-    if is_within DataHalf n then Some (record { name = codes "DH"; takes = DataHalf }) else
-    if is_within Word n then Some (record { name = codes "DW"; takes = Word }) else
+abbrev pub wider_data : List ℕ → Option TakingName
+wider_data part =
+    if holds_part DataHalf part then Some (record { name = codes "DH"; takes = DataHalf }) else
+    if holds_part Word part then Some (record { name = codes "DW"; takes = Word }) else
     None
 
 -- these tell the width of an operand, or are none
@@ -94,13 +98,13 @@ abbrev pub is_of_family : List ℕ → List ℕ → Bool
 is_of_family family name = starts_with nat_eq name family && tells_width (drop (min (length family) (length name)) name)
 
 -- a row of the table, where it is of the family and takes the number
-abbrev pub wider_row : List ℕ → ℤ → Entry → Option TakingName
-wider_row family n e =
-    if is_of_family family e.name && is_within (taken_by_form e.form) n then Some (record { name = e.name; takes = taken_by_form e.form }) else None
+abbrev pub wider_row : List ℕ → List ℕ → Entry → Option TakingName
+wider_row family part e =
+    if is_of_family family e.name && holds_part (taken_by_form e.form) part then Some (record { name = e.name; takes = taken_by_form e.form }) else None
 
 -- the instruction with a byte, where it is of the family and takes the number
-unfoldable pub wider_at : List ℕ → ℤ → ℕ → Option TakingName
-wider_at family n byte = option_and_then (wider_row family n) (entry byte)
+unfoldable pub wider_at : List ℕ → List ℕ → ℕ → Option TakingName
+wider_at family part byte = option_and_then (wider_row family part) (entry byte)
 
 -- the first that is found at these bytes
 abbrev pub first_taking : (ℕ → Option TakingName) → List ℕ → Option TakingName
@@ -108,12 +112,12 @@ first_taking f [] = None
 first_taking f (byte ∷ bytes) = option_map_or Some (f byte) (first_taking f bytes)
 
 -- the first instruction of the family, among so many bytes from this one on, that takes the number
-unfoldable pub wider_from : List ℕ → ℤ → ℕ → ℕ → Option TakingName
-wider_from family n byte count = first_taking (wider_at family n) (range_with_len byte count)
+unfoldable pub wider_from : List ℕ → List ℕ → ℕ → ℕ → Option TakingName
+wider_from family part byte count = first_taking (wider_at family part) (range_with_len byte count)
 
 -- the first instruction of the family, by its byte, that takes the number
-abbrev pub wider_instruction : List ℕ → ℤ → Option TakingName
-wider_instruction family n = wider_from family n 0 256
+abbrev pub wider_instruction : List ℕ → List ℕ → Option TakingName
+wider_instruction family part = wider_from family part 0 256
 
 -- all but the last byte
 abbrev pub without_last : List ℕ → List ℕ
@@ -126,40 +130,63 @@ family_of Half name = without_last name
 family_of takes name = name
 
 -- a name like this one that takes the number
-unfoldable pub wider : Takes → List ℕ → ℤ → Option TakingName
-wider DataByte name n = wider_data n
-wider DataHalf name n = wider_data n
-wider takes name n = wider_instruction (family_of takes name) n
+unfoldable pub wider : Takes → List ℕ → List ℕ → Option TakingName
+wider DataByte name part = wider_data part
+wider DataHalf name part = wider_data part
+wider takes name part = wider_instruction (family_of takes name) part
 
--- the name that takes the number, in words
+-- this name takes the number, in words
+abbrev pub taking_name_text : TakingName → List ℕ
+taking_name_text w = joined (codes "; " ∷ w.name ∷ codes " has one from " ∷ range_text w.takes ∷ [])
+
+-- the name that takes the number, in words, if there is one
 abbrev pub wider_name_text : Option TakingName → List ℕ
 wider_name_text None = []
-wider_name_text (Some w) = joined (codes "; " ∷ w.name ∷ codes " has one from " ∷ range_text w.takes ∷ [])
+wider_name_text (Some w) = taking_name_text w
 
 -- which name takes this number, in words
 abbrev pub wider_than_text : Takes → List ℕ → List ℕ → ℤ → List ℕ
 wider_than_text takes name part n =
     if bytes_eq name (codes "L") && is_from_to (negsuc 254) (negsuc 0) n then
-      joined (codes "; LM " ∷ unsigned_part part ∷ codes " loads " ∷ part ∷ [])
+    joined (codes "; LM " ∷ unsigned_part part ∷ codes " loads " ∷ part ∷ [])
     else
-    wider_name_text (wider takes name n)
+    wider_name_text (wider takes name part)
 
 -- which name takes the number, in words
 abbrev pub wider_text : Takes → List ℕ → List ℕ → List ℕ
 wider_text takes name part = option_map_or (wider_than_text takes name part) (number_of part) []
 
+-- a number that is out of this range, without another name
+abbrev pub outside_remark : Takes → Part → Part → Remark
+outside_remark takes name first =
+    said_of first.column (first.text ∷ codes " is out of range: " ∷ name.text ∷ codes " has a number from " ∷ range_text takes ∷ [])
+
 -- a number that is out of this range
 abbrev pub ranged_remark : Takes → Part → Part → Remark
 ranged_remark takes name first = record {
-  column = first.column;
-  words = joined (first.text ∷ codes " is out of range: " ∷ name.text ∷ codes " has a number from " ∷ range_text takes ∷ []) ++ wider_text takes name.text first.text;
+  column = (outside_remark takes name first).column;
+  words = (outside_remark takes name first).words ++ wider_text takes name.text first.text;
 }
+
+-- what is aligned to is after a name
+abbrev pub is_boundary : Takes → Bool
+is_boundary Boundary = true
+is_boundary takes = false
+
+-- a number that is out of range after ALIGN
+abbrev pub boundary_remark : Part → Remark
+boundary_remark first = said_of first.column (first.text ∷ codes " is out of range: ALIGN has the number 2 or 4" ∷ [])
+
+-- a number that is out of range after GLOBAL
+abbrev pub global_remark : Part → Remark
+global_remark first = said_of first.column (first.text ∷ codes " is out of range: GLOBAL has a number from 1 to 1000" ∷ [])
 
 -- a number that is out of range, after a name that takes this
 abbrev pub taken_number_remark : Takes → Part → Part → Remark
-taken_number_remark Boundary name first = said_of first.column (first.text ∷ codes " is out of range: ALIGN has the number 2 or 4" ∷ [])
-taken_number_remark Global name first = said_of first.column (first.text ∷ codes " is out of range: GLOBAL has a number from 1 to 1000" ∷ [])
-taken_number_remark takes name first = ranged_remark takes name first
+taken_number_remark takes name first =
+    if is_boundary takes then boundary_remark first else
+    if is_global takes then global_remark first else
+    ranged_remark takes name first
 
 -- a number that is out of range, after a name
 abbrev pub number_remark : Part → Part → Remark

@@ -59,7 +59,7 @@ no_decimal_text part None = joined (part ∷ codes " is no number: that is decim
 unfoldable pub no_number_text : List ℕ → List ℕ
 no_number_text part =
     if are_digits (unsigned_part part) then
-      joined (codes "a number has at most 10 digits, and " ∷ part ∷ codes " has " ∷ decimal (length (unsigned_part part)) ∷ [])
+    joined (codes "a number has at most 10 digits, and " ∷ part ∷ codes " has " ∷ decimal (length (unsigned_part part)) ∷ [])
     else
     no_decimal_text part (hex_digits (unsigned_part part))
 
@@ -80,6 +80,10 @@ no_word_text part =
     if is_word part then joined (codes "a label has at most 16 letters and digits, and " ∷ part ∷ codes " has " ∷ decimal (length part) ∷ []) else
     joined (codes "a label is a letter, and up to 15 letters and digits, and not " ∷ part ∷ [])
 
+-- a part is a number, in words
+abbrev pub is_number_text : List ℕ → List ℕ
+is_number_text part = joined (part ∷ codes " is a number" ∷ [])
+
 -- why a part is no label
 unfoldable pub no_label_text : List ℕ → List ℕ
-no_label_text part = if is_number_part part then joined (part ∷ codes " is a number" ∷ []) else no_word_text part
+no_label_text part = if is_number_part part then is_number_text part else no_word_text part

@@ -87,44 +87,61 @@ even_after offset = (offset + 1) / 2 * 2
 abbrev pub reserve_remark : Place → ℕ → Part → Remark
 reserve_remark place offset target =
     if nat_lt place.offset (even_after offset) then
-      said_of
-      target.column
-      (codes "the label " ∷ target.text ∷ codes " is " ∷ decimal (even_after offset - place.offset) ∷ codes " bytes back, and RES reaches 32768" ∷ [])
+    said_of
+    target.column
+    (codes "the label " ∷ target.text ∷ codes " is " ∷ decimal (even_after offset - place.offset) ∷ codes " bytes back, and RES reaches 32768" ∷ [])
     else
     said_of
     target.column
     (codes "the label " ∷ target.text ∷ codes " is " ∷ decimal (place.offset - even_after offset) ∷ codes " bytes ahead, and RES reaches 32767" ∷ [])
 
+-- the label is on no RES line
+abbrev pub unreserved_remark : Part → Part → Remark
+unreserved_remark name target =
+    said_of
+    target.column
+    (codes "the label " ∷ target.text ∷ codes " is on no RES line, and " ∷ name.text ∷ codes " leads on by one: a label of its own on a line RES "
+    ∷ target.text ∷ [])
+
+-- the RES line is before the one that names it
+abbrev pub early_remark : Part → Remark
+early_remark target = said_of target.column (codes "the RES line of " ∷ target.text ∷ codes " is before this line, and has to come after it" ∷ [])
+
+-- the RES line is so many bytes ahead
+abbrev pub far_remark : ℕ → Part → Part → Remark
+far_remark distance name target =
+    said_of
+    target.column
+    (codes "the RES line of " ∷ target.text ∷ codes " is " ∷ decimal distance ∷ codes " bytes ahead, and " ∷ name.text ∷ codes " reaches 510" ∷ [])
+
 -- no halfword that leads to the label is near
 abbrev pub indirect_remark : Place → ℕ → Part → Part → Remark
 indirect_remark place offset name target =
-    if not place.is_reserve then
-      said_of
-      target.column
-      (codes "the label " ∷ target.text ∷ codes " is on no RES line, and " ∷ name.text ∷ codes " leads on by one: a label of its own on a line RES "
-      ∷ target.text ∷ [])
-    else
-    if nat_lt place.offset (even_after offset) then
-      said_of target.column (codes "the RES line of " ∷ target.text ∷ codes " is before this line, and has to come after it" ∷ [])
-    else
+    if not place.is_reserve then unreserved_remark name target else
+    if nat_lt place.offset (even_after offset) then early_remark target else
+    far_remark (place.offset - even_after offset) name target
+
+-- the label is so many bytes back
+abbrev pub back_remark : ℕ → Part → Part → Remark
+back_remark distance name target =
     said_of
     target.column
-    (codes "the RES line of " ∷ target.text ∷ codes " is " ∷ decimal (place.offset - even_after offset) ∷ codes " bytes ahead, and " ∷ name.text ∷ codes " reaches 510"
-    ∷ [])
+    (codes "the label " ∷ target.text ∷ codes " is " ∷ decimal distance ∷ codes " bytes back, and " ∷ name.text ∷ codes " reaches 128; " ∷ name.text
+    ∷ codes "$ reaches further, by a line RES " ∷ target.text ∷ [])
+
+-- the label is so many bytes ahead
+abbrev pub ahead_remark : ℕ → Part → Part → Remark
+ahead_remark distance name target =
+    said_of
+    target.column
+    (codes "the label " ∷ target.text ∷ codes " is " ∷ decimal distance ∷ codes " bytes ahead, and " ∷ name.text ∷ codes " reaches 127; " ∷ name.text
+    ∷ codes "$ reaches further, by a line RES " ∷ target.text ∷ [])
 
 -- the label is not near
 abbrev pub near_remark : Place → ℕ → Part → Part → Remark
 near_remark place offset name target =
-    if nat_lt place.offset (offset + 1) then
-      said_of
-      target.column
-      (codes "the label " ∷ target.text ∷ codes " is " ∷ decimal (offset + 1 - place.offset) ∷ codes " bytes back, and " ∷ name.text ∷ codes " reaches 128; "
-      ∷ name.text ∷ codes "$ reaches further, by a line RES " ∷ target.text ∷ [])
-    else
-    said_of
-    target.column
-    (codes "the label " ∷ target.text ∷ codes " is " ∷ decimal (place.offset - (offset + 1)) ∷ codes " bytes ahead, and " ∷ name.text ∷ codes " reaches 127; "
-    ∷ name.text ∷ codes "$ reaches further, by a line RES " ∷ target.text ∷ [])
+    if nat_lt place.offset (offset + 1) then back_remark (offset + 1 - place.offset) name target else
+    ahead_remark (place.offset - (offset + 1)) name target
 
 -- the label with this place is out of reach of a name that takes this
 abbrev pub placed_remark : Takes → Place → ℕ → Part → Part → Remark

@@ -24,12 +24,7 @@ fn is_line_byte(c: u8) -> bool
 }
 
 /// What is said of the byte at this place, in line n.
-pub fn byte_remark(
-    alloc: Global,
-    n: u32,
-    code: &[u8],
-    place: usize,
-) -> Result<Remark, AllocError>
+pub fn byte_remark(alloc: Global, n: u32, code: &[u8], place: usize) -> Result<Remark, AllocError>
     requires { place < length code.now }
     ensures { IfOk result (λ r. kept_remark r ≡ byte_remark n code.now place) }
 {
@@ -38,7 +33,9 @@ pub fn byte_remark(
             alloc,
             place + 1,
             &[
-                Bytes(b"the text begins with a byte order mark, three bytes that an editor has put there; "),
+                Bytes(
+                    b"the text begins with a byte order mark, three bytes that an editor has put there; ",
+                ),
                 Bytes(b"it has to begin with its first line"),
             ],
         );
@@ -64,12 +61,7 @@ fn first_byte_remark(alloc: Global, column: usize, bytes: &[u8]) -> Result<Remar
 }
 
 // What is said of a byte, before these.
-fn byte_then(
-    alloc: Global,
-    column: usize,
-    byte: u8,
-    rest: &[u8],
-) -> Result<Remark, AllocError>
+fn byte_then(alloc: Global, column: usize, byte: u8, rest: &[u8]) -> Result<Remark, AllocError>
     ensures { IfOk result (λ r. kept_remark r ≡ byte_then column byte rest.now) }
 {
     if byte == b'\'' {
@@ -86,7 +78,9 @@ fn byte_then(
         return make_remark(
             alloc,
             column,
-            &[Bytes(b"a no-break space is here, and only plain spaces may be between the parts of a line")],
+            &[Bytes(
+                b"a no-break space is here, and only plain spaces may be between the parts of a line",
+            )],
         );
     }
     if byte == 0xe2 && begins_with_quote(rest) {
@@ -133,11 +127,7 @@ fn is_printable(c: u8) -> bool
 }
 
 // What is said of a quote, and the character between it and another.
-fn quote_remark(
-    alloc: Global,
-    column: usize,
-    character: Option<u8>,
-) -> Result<Remark, AllocError>
+fn quote_remark(alloc: Global, column: usize, character: Option<u8>) -> Result<Remark, AllocError>
     ensures { IfOk result (λ r. kept_remark r ≡ quote_remark column character) }
 {
     match character {
@@ -233,5 +223,9 @@ fn hex_digit(digit: u8) -> u8
     requires { digit < 16 }
     ensures { result ≡ hex_digit digit }
 {
-    if digit < 10 { b'0' + digit } else { b'a' - 10 + digit }
+    if digit < 10 {
+        b'0' + digit
+    } else {
+        b'a' - 10 + digit
+    }
 }

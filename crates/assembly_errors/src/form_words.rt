@@ -2,7 +2,7 @@
 ghost use Rattle.std.specs.Prelude.{◌≡◌, ◌++◌, ◌<◌, length, IfOk};
 ghost use Rattle.std.specs.List.{flat_map};
 ghost use Rattle.tool_texts.specs.Sentences.{text_of};
-ghost use Rattle.assembly_errors.specs.FormWords.{apart_remark, begun_remark, colon_remark, ends_with_colon, form_remark, global_label_remark, global_number_remark, global_order_remark, global_remark, inner_colon_remark, is_global, is_label_part, label_remark, labelled_remark, later_colon_remark, line_remark, missing_remark, more_remark, named_remark, next_colon_remark, no_form_remark, no_global_remark, no_name_remark, no_operand_remark, one_operand_remark, operand_remark, outer_colon_remark, second_label_remark, statement_remark, takes_number, two_labels_remark, unlabelled_remark, wrong_number_remark};
+ghost use Rattle.assembly_errors.specs.FormWords.{apart_remark, begun_remark, colon_remark, ends_with_colon, form_remark, global_label_remark, global_number_remark, global_order_remark, global_remark, inner_colon_remark, is_global, is_label_part, label_remark, labelled_remark, later_colon_remark, line_remark, missing_remark, more_remark, named_remark, next_colon_remark, no_form_remark, no_global_remark, no_name_remark, no_operand_remark, name_for_number_remark, number_due_remark, number_remark, given_remark, is_nothing, more_by, one_operand_remark, operand_remark, operands_remark, wrong_label_remark, outer_colon_remark, second_label_remark, statement_remark, takes_number, two_labels_remark, unlabelled_remark, wrong_number_remark};
 ghost use Rattle.assembly_errors.specs.Hints.{name_hint, name_hint_text};
 ghost use Rattle.assembly_errors.specs.NumberWords.{no_label_text, no_number_text};
 ghost use Rattle.assembly_errors.specs.Remarks.{kept_remark};
@@ -46,16 +46,15 @@ fn line_remark(alloc: Global, code: &[u8]) -> Result<Remark, AllocError>
 pub fn no_form_remark(alloc: Global) -> Result<Remark, AllocError>
     ensures { IfOk result (λ r. kept_remark r ≡ no_form_remark) }
 {
-    make_remark(alloc, 1, &[Bytes(b"the line has none of the forms of assembly")])
+    make_remark(
+        alloc,
+        1,
+        &[Bytes(b"the line has none of the forms of assembly")],
+    )
 }
 
 // What is said of a line that begins with this part.
-fn begun_remark(
-    alloc: Global,
-    code: &[u8],
-    part: &Part,
-    rest: &[u8],
-) -> Result<Remark, AllocError>
+fn begun_remark(alloc: Global, code: &[u8], part: &Part, rest: &[u8]) -> Result<Remark, AllocError>
     ensures { IfOk result (λ r. kept_remark r ≡ begun_remark code.now part.now rest.now) }
 {
     match before_colon(part.text.bytes()) {
@@ -76,7 +75,11 @@ fn label_remark(
         (λ r. kept_remark r ≡ label_remark code.now part.now name.now rest.now) }
 {
     if name.is_empty() {
-        return make_remark(alloc, part.column, &[Bytes(b"a label is missing before the colon")]);
+        return make_remark(
+            alloc,
+            part.column,
+            &[Bytes(b"a label is missing before the colon")],
+        );
     }
     match first_colon(name) {
         Some(place) => two_labels_remark(alloc, part, name.split_at(place).1),
@@ -153,14 +156,12 @@ fn no_number_remark(
 }
 
 /// What is said of a name that nothing has, after this.
-pub fn unknown_remark(
-    alloc: Global,
-    name: &Part,
-    before: &[Said],
-) -> Result<Remark, AllocError>
+pub fn unknown_remark(alloc: Global, name: &Part, before: &[Said]) -> Result<Remark, AllocError>
     ensures { IfOk result (λ r. kept_remark r
-        ≡ record { column = name.now.column;
-            words = flat_map text_of before.now ++ name_hint_text (name_hint name.now.text) }) }
+        ≡ record {
+          column = name.now.column;
+          words = flat_map text_of before.now ++ name_hint_text (name_hint name.now.text);
+        }) }
 {
     let mut remark = make_remark(alloc, name.column, before)?;
     push_name_hint(&mut remark.words, &name_hint(name.text.bytes()))?;
@@ -330,16 +331,25 @@ fn statement_remark(alloc: Global, code: &[u8], rest: &[u8]) -> Result<Remark, A
     let next = next_part(code, rest);
     match &next.part {
         None => no_form_remark(alloc),
-        Some(name) => named_remark(alloc, name, &three_parts(code, next.rest.bytes())),
+        Some(name) => operands_remark(alloc, code, name, next.rest.bytes()),
     }
 }
 
-// What is said of a name and its operands.
-fn named_remark(
+// What is said of a name and what follows it.
+fn operands_remark<'a>(
     alloc: Global,
-    name: &Part,
-    operands: &ThreeParts,
+    code: &[u8],
+    name: &Part<'a>,
+    rest: &'a [u8],
 ) -> Result<Remark, AllocError>
+    ensures { IfOk result
+        (λ r. kept_remark r ≡ operands_remark code.now name.now rest.now) }
+{
+    named_remark(alloc, name, &three_parts(code, rest))
+}
+
+// What is said of a name and its operands.
+fn named_remark(alloc: Global, name: &Part, operands: &ThreeParts) -> Result<Remark, AllocError>
     ensures { IfOk result (λ r. kept_remark r ≡ named_remark name.now operands.now) }
 {
     if !has_name_form(name.text.bytes()) {
@@ -386,23 +396,46 @@ fn no_name_remark(alloc: Global, name: &Part) -> Result<Remark, AllocError>
 }
 
 // What is said of the operands of a name that takes this.
-fn operand_remark(
+fn operand_remark<'a>(
     alloc: Global,
     takes: Takes,
-    name: &Part,
-    operands: &ThreeParts,
+    name: &Part<'a>,
+    operands: &ThreeParts<'a>,
 ) -> Result<Remark, AllocError>
     ensures { IfOk result
         (λ r. kept_remark r ≡ operand_remark takes name.now operands.now) }
 {
     match &operands.first {
         None => missing_remark(alloc, takes, name),
-        Some(first) => match takes {
-            Takes::Nothing => no_operand_remark(alloc, name, first),
-            Takes::Global => global_remark(alloc, first, operands),
-            _ => one_operand_remark(alloc, takes, name, first, operands),
-        },
+        Some(first) => given_remark(alloc, takes, name, first, operands),
     }
+}
+
+// The same, where this is the first.
+fn given_remark<'a>(
+    alloc: Global,
+    takes: Takes,
+    name: &Part<'a>,
+    first: &Part<'a>,
+    operands: &ThreeParts<'a>,
+) -> Result<Remark, AllocError>
+    ensures { IfOk result
+        (λ r. kept_remark r ≡ given_remark takes name.now first.now operands.now) }
+{
+    if is_nothing(takes) {
+        return no_operand_remark(alloc, name, first);
+    }
+    if is_global(takes) {
+        return global_remark(alloc, first, operands);
+    }
+    one_operand_remark(alloc, takes, name, first, operands)
+}
+
+/// Whether nothing is after a name that takes this.
+pub fn is_nothing(takes: Takes) -> bool
+    ensures { result ≡ is_nothing takes }
+{
+    matches!(takes, Takes::Nothing)
 }
 
 // What is said where no operand is after a name.
@@ -429,23 +462,30 @@ fn missing_remark(alloc: Global, takes: Takes, name: &Part) -> Result<Remark, Al
     )
 }
 
-fn is_global(takes: Takes) -> bool
+/// Whether a global and its label are after a name that takes this.
+pub fn is_global(takes: Takes) -> bool
     ensures { result ≡ is_global takes }
 {
     matches!(takes, Takes::Global)
 }
 
 // What is said of an operand where none may be.
-fn no_operand_remark<'a>(alloc: Global, name: &Part<'a>, operand: &Part<'a>) -> Result<Remark, AllocError>
+fn no_operand_remark<'a>(
+    alloc: Global,
+    name: &Part<'a>,
+    operand: &Part<'a>,
+) -> Result<Remark, AllocError>
     ensures { IfOk result (λ r. kept_remark r ≡ no_operand_remark name.now operand.now) }
 {
+    let word = name.text.bytes();
+    let more = operand.text.bytes();
     make_remark(
         alloc,
         operand.column,
         &[
-            Bytes(name.text.bytes()),
+            Bytes(word),
             Bytes(b" has no operand, and "),
-            Bytes(operand.text.bytes()),
+            Bytes(more),
             Bytes(b" is after it"),
         ],
     )
@@ -457,28 +497,46 @@ fn one_operand_remark<'a>(
     takes: Takes,
     name: &Part<'a>,
     first: &Part<'a>,
-    operands: &ThreeParts,
+    operands: &ThreeParts<'a>,
 ) -> Result<Remark, AllocError>
     ensures { IfOk result
         (λ r. kept_remark r ≡ one_operand_remark takes name.now first.now operands.now) }
 {
     if takes_number(takes) {
-        if !is_number_part(first.text.bytes()) {
-            return wrong_number_remark(alloc, takes, name, first);
-        }
-    } else if !is_label_part(first.text.bytes()) {
-        return no_label_remark(
-            alloc,
-            first.column,
-            &[
-                Bytes(b"after "),
-                Bytes(name.text.bytes()),
-                Bytes(b" comes a label; "),
-            ],
-            first.text.bytes(),
-        );
+        return number_remark(alloc, takes, name, first, operands);
     }
-    match &operands.second {
+    if is_label_part(first.text.bytes()) {
+        return second_remark(alloc, name, &operands.second);
+    }
+    wrong_label_remark(alloc, name, first)
+}
+
+// The same, where it is a number.
+fn number_remark<'a>(
+    alloc: Global,
+    takes: Takes,
+    name: &Part<'a>,
+    first: &Part<'a>,
+    operands: &ThreeParts<'a>,
+) -> Result<Remark, AllocError>
+    ensures { IfOk result
+        (λ r. kept_remark r ≡ number_remark takes name.now first.now operands.now) }
+{
+    if is_number_part(first.text.bytes()) {
+        return second_remark(alloc, name, &operands.second);
+    }
+    wrong_number_remark(alloc, takes, name, first)
+}
+
+// What is said of a second operand, if there is one, where one may be.
+fn second_remark<'a>(
+    alloc: Global,
+    name: &Part<'a>,
+    second: &Option<Part<'a>>,
+) -> Result<Remark, AllocError>
+    ensures { IfOk result (λ r. kept_remark r ≡ more_by name.now second.now) }
+{
+    match second {
         Some(second) => more_remark(alloc, name, second),
         None => no_form_remark(alloc),
     }
@@ -502,31 +560,79 @@ fn wrong_number_remark<'a>(
         (λ r. kept_remark r ≡ wrong_number_remark takes name.now operand.now) }
 {
     if is_label_part(operand.text.bytes()) {
-        return make_remark(
-            alloc,
-            operand.column,
-            &[
-                Bytes(b"after "),
-                Bytes(name.text.bytes()),
-                Bytes(b" comes "),
-                Bytes(takes.operand_text()),
-                Bytes(b", and "),
-                Bytes(operand.text.bytes()),
-                Bytes(b" is a name; a .s text may have it, where SET gives it a number"),
-            ],
-        );
+        return name_for_number_remark(alloc, takes, name, operand);
     }
+    number_due_remark(alloc, takes, name, operand)
+}
+
+// What is said of a name where a number is due.
+fn name_for_number_remark<'a>(
+    alloc: Global,
+    takes: Takes,
+    name: &Part<'a>,
+    operand: &Part<'a>,
+) -> Result<Remark, AllocError>
+    ensures { IfOk result
+        (λ r. kept_remark r ≡ name_for_number_remark takes name.now operand.now) }
+{
+    let word = name.text.bytes();
+    let more = operand.text.bytes();
+    make_remark(
+        alloc,
+        operand.column,
+        &[
+            Bytes(b"after "),
+            Bytes(word),
+            Bytes(b" comes "),
+            Bytes(takes.operand_text()),
+            Bytes(b", and "),
+            Bytes(more),
+            Bytes(b" is a name; a .s text may have it, where SET gives it a number"),
+        ],
+    )
+}
+
+// What is said of another part where a number is due.
+fn number_due_remark<'a>(
+    alloc: Global,
+    takes: Takes,
+    name: &Part<'a>,
+    operand: &Part<'a>,
+) -> Result<Remark, AllocError>
+    ensures { IfOk result
+        (λ r. kept_remark r ≡ number_due_remark takes name.now operand.now) }
+{
+    let word = name.text.bytes();
+    let more = operand.text.bytes();
     no_number_remark(
         alloc,
         operand.column,
         &[
             Bytes(b"after "),
-            Bytes(name.text.bytes()),
+            Bytes(word),
             Bytes(b" comes "),
             Bytes(takes.operand_text()),
             Bytes(b"; "),
         ],
-        operand.text.bytes(),
+        more,
+    )
+}
+
+// What is said of another part where a label is due.
+fn wrong_label_remark<'a>(
+    alloc: Global,
+    name: &Part<'a>,
+    operand: &Part<'a>,
+) -> Result<Remark, AllocError>
+    ensures { IfOk result (λ r. kept_remark r ≡ wrong_label_remark name.now operand.now) }
+{
+    let word = name.text.bytes();
+    let more = operand.text.bytes();
+    no_label_remark(
+        alloc,
+        operand.column,
+        &[Bytes(b"after "), Bytes(word), Bytes(b" comes a label; ")],
+        more,
     )
 }
 
@@ -534,24 +640,22 @@ fn wrong_number_remark<'a>(
 fn more_remark<'a>(alloc: Global, name: &Part<'a>, second: &Part<'a>) -> Result<Remark, AllocError>
     ensures { IfOk result (λ r. kept_remark r ≡ more_remark name.now second.now) }
 {
+    let word = name.text.bytes();
+    let more = second.text.bytes();
     make_remark(
         alloc,
         second.column,
         &[
-            Bytes(name.text.bytes()),
+            Bytes(word),
             Bytes(b" has one operand, and "),
-            Bytes(second.text.bytes()),
+            Bytes(more),
             Bytes(b" is one too many"),
         ],
     )
 }
 
 // What is said of the operands of GLOBAL.
-fn global_remark(
-    alloc: Global,
-    first: &Part,
-    operands: &ThreeParts,
-) -> Result<Remark, AllocError>
+fn global_remark(alloc: Global, first: &Part, operands: &ThreeParts) -> Result<Remark, AllocError>
     ensures { IfOk result (λ r. kept_remark r ≡ global_remark first.now operands.now) }
 {
     if !is_number_part(first.text.bytes()) {
@@ -597,7 +701,11 @@ fn no_global_remark(alloc: Global, first: &Part) -> Result<Remark, AllocError>
 }
 
 // The same, where another operand follows.
-fn global_order_remark<'a>(alloc: Global, first: &Part<'a>, second: &Part<'a>) -> Result<Remark, AllocError>
+fn global_order_remark<'a>(
+    alloc: Global,
+    first: &Part<'a>,
+    second: &Part<'a>,
+) -> Result<Remark, AllocError>
     ensures { IfOk result (λ r. kept_remark r ≡ global_order_remark first.now second.now) }
 {
     if is_label_part(first.text.bytes()) && is_number_part(second.text.bytes()) {

@@ -1,9 +1,9 @@
 // What is said of names that nothing has, and of numbers that are out of range.
 ghost use Rattle.std.specs.Prelude.{◌≡◌, ◌++◌, IfOk, OnOk};
-ghost use Rattle.assembly_errors.specs.NameWords.{begins_with_label, family_of, first_name_remark, is_of_family, name_after, name_remark, named_line, number_remark, plain_name_remark, range_remark, ranged_remark, stands_alone, taken_number_remark, tells_width, unknown_name_remark, wider, wider_at, wider_data, wider_instruction, wider_text, wider_than_text, without_last};
+ghost use Rattle.assembly_errors.specs.NameWords.{begins_with_label, boundary_remark, family_of, first_name_remark, global_remark, holds_part, is_boundary, is_of_family, name_after, name_remark, named_line, number_remark, outside_remark, plain_name_remark, range_remark, ranged_remark, stands_alone, taken_number_remark, taking_name_text, tells_width, unknown_name_remark, wider, wider_at, wider_data, wider_instruction, wider_name_text, wider_text, wider_than_text, without_last};
 ghost use Rattle.assembly_errors.specs.Remarks.{kept_remark};
 
-use crate::form_words::{is_label_part, no_form_remark, takes_number, unknown_remark};
+use crate::form_words::{is_global, is_label_part, no_form_remark, takes_number, unknown_remark};
 use crate::leads::LineText;
 use crate::number_words::unsigned_part;
 use crate::parts::{Part, ThreeParts, next_part, three_parts};
@@ -28,6 +28,7 @@ pub struct NamedLine<'a> {
 }
 
 /// The name of a line and its operands; this is the line without its comment.
+#[tactic(auto, unfolding(crate::specs::NameWords::named_line))]
 pub fn named_line(code: &[u8]) -> NamedLine<'_>
     ensures { result ≡ named_line code.now }
 {
@@ -72,11 +73,7 @@ pub fn name_remark(alloc: Global, line: &NamedLine) -> Result<Remark, AllocError
 }
 
 // The same, of this name.
-fn unknown_name_remark(
-    alloc: Global,
-    name: &Part,
-    line: &NamedLine,
-) -> Result<Remark, AllocError>
+fn unknown_name_remark(alloc: Global, name: &Part, line: &NamedLine) -> Result<Remark, AllocError>
     ensures { IfOk result (λ r. kept_remark r ≡ unknown_name_remark name.now line.now) }
 {
     match &line.operands.first {
@@ -167,25 +164,47 @@ fn taken_number_remark<'a>(
 ) -> Result<Remark, AllocError>
     ensures { IfOk result (λ r. kept_remark r ≡ taken_number_remark takes name.now first.now) }
 {
-    match takes {
-        Takes::Boundary => make_remark(
-            alloc,
-            first.column,
-            &[
-                Bytes(first.text.bytes()),
-                Bytes(b" is out of range: ALIGN has the number 2 or 4"),
-            ],
-        ),
-        Takes::Global => make_remark(
-            alloc,
-            first.column,
-            &[
-                Bytes(first.text.bytes()),
-                Bytes(b" is out of range: GLOBAL has a number from 1 to 1000"),
-            ],
-        ),
-        _ => ranged_remark(alloc, takes, name, first),
+    if is_boundary(takes) {
+        return boundary_remark(alloc, first);
     }
+    if is_global(takes) {
+        return global_remark(alloc, first);
+    }
+    ranged_remark(alloc, takes, name, first)
+}
+
+fn boundary_remark(alloc: Global, first: &Part) -> Result<Remark, AllocError>
+    ensures { IfOk result (λ r. kept_remark r ≡ boundary_remark first.now) }
+{
+    let number = first.text.bytes();
+    make_remark(
+        alloc,
+        first.column,
+        &[
+            Bytes(number),
+            Bytes(b" is out of range: ALIGN has the number 2 or 4"),
+        ],
+    )
+}
+
+fn global_remark(alloc: Global, first: &Part) -> Result<Remark, AllocError>
+    ensures { IfOk result (λ r. kept_remark r ≡ global_remark first.now) }
+{
+    let number = first.text.bytes();
+    make_remark(
+        alloc,
+        first.column,
+        &[
+            Bytes(number),
+            Bytes(b" is out of range: GLOBAL has a number from 1 to 1000"),
+        ],
+    )
+}
+
+fn is_boundary(takes: Takes) -> bool
+    ensures { result ≡ is_boundary takes }
+{
+    matches!(takes, Takes::Boundary)
 }
 
 fn ranged_remark<'a>(
@@ -196,28 +215,42 @@ fn ranged_remark<'a>(
 ) -> Result<Remark, AllocError>
     ensures { IfOk result (λ r. kept_remark r ≡ ranged_remark takes name.now first.now) }
 {
-    let mut remark = make_remark(
-        alloc,
-        first.column,
-        &[
-            Bytes(first.text.bytes()),
-            Bytes(b" is out of range: "),
-            Bytes(name.text.bytes()),
-            Bytes(b" has a number from "),
-            Bytes(takes.range_text()),
-        ],
+    let mut remark = outside_remark(alloc, takes, name, first)?;
+    push_wider(
+        &mut remark.words,
+        takes,
+        name.text.bytes(),
+        first.text.bytes(),
     )?;
-    push_wider(&mut remark.words, takes, name.text.bytes(), first.text.bytes())?;
     Ok(remark)
 }
 
-// Adds which name takes the number.
-fn push_wider(
-    words: &mut Vec<u8>,
+// The same, without another name.
+fn outside_remark<'a>(
+    alloc: Global,
     takes: Takes,
-    name: &[u8],
-    part: &[u8],
-) -> Result<(), AllocError>
+    name: &Part<'a>,
+    first: &Part<'a>,
+) -> Result<Remark, AllocError>
+    ensures { IfOk result (λ r. kept_remark r ≡ outside_remark takes name.now first.now) }
+{
+    let word = name.text.bytes();
+    let number = first.text.bytes();
+    make_remark(
+        alloc,
+        first.column,
+        &[
+            Bytes(number),
+            Bytes(b" is out of range: "),
+            Bytes(word),
+            Bytes(b" has a number from "),
+            Bytes(takes.range_text()),
+        ],
+    )
+}
+
+// Adds which name takes the number.
+fn push_wider(words: &mut Vec<u8>, takes: Takes, name: &[u8], part: &[u8]) -> Result<(), AllocError>
     ensures { OnOk result
         (words.new.items ≡ words.old.items ++ wider_text takes name.now part.now) }
 {
@@ -249,18 +282,33 @@ fn push_wider_than(
             ],
         );
     }
-    match wider(takes, name, n) {
+    push_wider_name(words, &wider(takes, name, part))
+}
+
+// Adds a name that takes a number, if there is one.
+fn push_wider_name(words: &mut Vec<u8>, wider: &Option<TakingName>) -> Result<(), AllocError>
+    ensures { OnOk result (words.new.items ≡ words.old.items ++ wider_name_text wider.now) }
+{
+    match wider {
         None => push_sentence(words, &[]),
-        Some(wider) => push_sentence(
-            words,
-            &[
-                Bytes(b"; "),
-                Bytes(wider.name.bytes()),
-                Bytes(b" has one from "),
-                Bytes(wider.takes.range_text()),
-            ],
-        ),
+        Some(wider) => push_taking_name(words, wider),
     }
+}
+
+fn push_taking_name(words: &mut Vec<u8>, wider: &TakingName) -> Result<(), AllocError>
+    ensures { OnOk result (words.new.items ≡ words.old.items ++ taking_name_text wider.now) }
+{
+    let word = wider.name.bytes();
+    let range = wider.takes.range_text();
+    push_sentence(
+        words,
+        &[
+            Bytes(b"; "),
+            Bytes(word),
+            Bytes(b" has one from "),
+            Bytes(range),
+        ],
+    )
 }
 
 /// A name, and what it takes.
@@ -274,32 +322,43 @@ pub struct TakingName {
 
 // A name like this one that takes the number.
 #[tactic(auto, unfolding(crate::specs::NameWords::wider))]
-fn wider(takes: Takes, name: &[u8], n: i64) -> Option<TakingName>
-    ensures { result ≡ wider takes name.now n }
+fn wider(takes: Takes, name: &[u8], part: &[u8]) -> Option<TakingName>
+    ensures { result ≡ wider takes name.now part.now }
 {
     match takes {
-        Takes::DataByte | Takes::DataHalf => wider_data(n),
-        _ => wider_instruction(family_of(takes, name), n),
+        Takes::DataByte | Takes::DataHalf => wider_data(part),
+        _ => wider_instruction(family_of(takes, name), part),
     }
 }
 
 // A line of data that holds the number.
-fn wider_data(n: i64) -> Option<TakingName>
-    ensures { result ≡ wider_data n }
+fn wider_data(part: &[u8]) -> Option<TakingName>
+    ensures { result ≡ wider_data part.now }
 {
-    if Takes::DataHalf.is_within(n) {
+    if holds_part(Takes::DataHalf, part) {
         return Some(TakingName {
             name: LineText::new(b"DH"),
             takes: Takes::DataHalf,
         });
     }
-    if Takes::Word.is_within(n) {
+    if holds_part(Takes::Word, part) {
         return Some(TakingName {
             name: LineText::new(b"DW"),
             takes: Takes::Word,
         });
     }
     None
+}
+
+// Whether a part is a number within a range.
+#[tactic(auto, unfolding(crate::specs::NameWords::holds_part))]
+fn holds_part(takes: Takes, part: &[u8]) -> bool
+    ensures { result ≡ holds_part takes part.now }
+{
+    match number(part) {
+        None => false,
+        Some(n) => takes.is_within(n),
+    }
 }
 
 // What the names have in common that do the same as this one, which takes this.
@@ -321,11 +380,11 @@ fn without_last(name: &[u8]) -> &[u8]
 
 // The first instruction of the family, by its byte, that takes the number.
 #[tactic(auto, using(crate::proofs::WiderNames::wider_from_here, crate::proofs::WiderNames::wider_from_end))]
-fn wider_instruction(family: &[u8], n: i64) -> Option<TakingName>
-    ensures { result ≡ wider_instruction family.now n }
+fn wider_instruction(family: &[u8], part: &[u8]) -> Option<TakingName>
+    ensures { result ≡ wider_instruction family.now part.now }
 {
     for byte in 0..256u32 {
-        if let Some(wider) = wider_at(family, n, byte as u8) {
+        if let Some(wider) = wider_at(family, part, byte as u8) {
             return Some(wider);
         }
     }
@@ -334,13 +393,13 @@ fn wider_instruction(family: &[u8], n: i64) -> Option<TakingName>
 
 // The instruction with this byte, where it is of the family and takes the number.
 #[tactic(auto, unfolding(crate::specs::NameWords::wider_at))]
-fn wider_at(family: &[u8], n: i64, byte: u8) -> Option<TakingName>
-    ensures { result ≡ wider_at family.now n byte }
+fn wider_at(family: &[u8], part: &[u8], byte: u8) -> Option<TakingName>
+    ensures { result ≡ wider_at family.now part.now byte }
 {
     let row = row(byte)?;
     let name = row.name.as_bytes();
     let takes = taken_by_form(row.form);
-    if is_of_family(family, name) && takes.is_within(n) {
+    if is_of_family(family, name) && holds_part(takes, part) {
         return Some(TakingName {
             name: LineText::new(name),
             takes,

@@ -3,7 +3,7 @@ ghost use Rattle.std.specs.Prelude.{◌≡◌, ◌++◌, OnOk};
 ghost use Rattle.std.specs.Char.{is_ascii_alphanumeric, is_ascii_digit, is_ascii_hexdigit};
 ghost use Rattle.std.specs.List.{list_all};
 ghost use Rattle.module_text.specs.TextReader.Numbers.{number_in};
-ghost use Rattle.assembly_errors.specs.NumberWords.{after_hex_mark, are_digits, are_hex_digits, begins_with_digit, hex_digits, hex_text, is_number_part, is_word, no_label_text, no_number_text, no_word_text, sign_of, unsigned_part};
+ghost use Rattle.assembly_errors.specs.NumberWords.{after_hex_mark, are_digits, are_hex_digits, begins_with_digit, hex_digits, hex_text, is_number_part, is_number_text, is_word, no_label_text, no_number_text, no_word_text, sign_of, unsigned_part};
 
 use crate::leads::LineText;
 use assembly::assembly_text::numbers::number;
@@ -163,9 +163,16 @@ pub fn push_no_label(words: &mut Vec<u8>, part: &[u8]) -> Result<(), AllocError>
     ensures { OnOk result (words.new.items ≡ words.old.items ++ no_label_text part.now) }
 {
     if is_number_part(part) {
-        return push_sentence(words, &[Bytes(part), Bytes(b" is a number")]);
+        return push_is_number(words, part);
     }
     push_no_word(words, part)
+}
+
+// Adds that a part is a number.
+fn push_is_number(words: &mut Vec<u8>, part: &[u8]) -> Result<(), AllocError>
+    ensures { OnOk result (words.new.items ≡ words.old.items ++ is_number_text part.now) }
+{
+    push_sentence(words, &[Bytes(part), Bytes(b" is a number")])
 }
 
 // The same, where the part is no number.

@@ -1,7 +1,7 @@
 // What is said of labels: where they are defined, and whether they are within reach.
 ghost use Rattle.std.specs.Prelude.{◌≡◌, IfOk};
 ghost use Rattle.assembly.specs.AssemblyText.KeptLabels.{table_of};
-ghost use Rattle.assembly_errors.specs.ReachWords.{address_remark, before_colon_remark, defined_remark, indirect_remark, length_remark, near_remark, placed_remark, reach_remark, repeated_remark, reserve_remark, target_remark, undefined_after, undefined_by, undefined_label, undefined_remark};
+ghost use Rattle.assembly_errors.specs.ReachWords.{address_remark, ahead_remark, back_remark, before_colon_remark, defined_remark, early_remark, far_remark, indirect_remark, length_remark, near_remark, placed_remark, reach_remark, repeated_remark, reserve_remark, target_remark, undefined_after, undefined_by, undefined_label, undefined_remark, unreserved_remark};
 ghost use Rattle.assembly_errors.specs.Remarks.{kept_remark};
 
 use crate::drafts::Definition;
@@ -82,7 +82,10 @@ fn undefined_label(
             Bytes(b" is defined nowhere in this text"),
         ],
     )?;
-    push_label_hint(&mut remark.words, &label_hint(definitions, target.text.bytes()))?;
+    push_label_hint(
+        &mut remark.words,
+        &label_hint(definitions, target.text.bytes()),
+    )?;
     Ok(remark)
 }
 
@@ -230,37 +233,65 @@ fn near_remark<'a>(
     let from = u64::from(offset) + 1;
     let to = u64::from(place.offset);
     if to < from {
-        return make_remark(
-            alloc,
-            target.column,
-            &[
-                Bytes(b"the label "),
-                Bytes(target.text.bytes()),
-                Bytes(b" is "),
-                Number(from - to),
-                Bytes(b" bytes back, and "),
-                Bytes(name.text.bytes()),
-                Bytes(b" reaches 128; "),
-                Bytes(name.text.bytes()),
-                Bytes(b"$ reaches further, by a line RES "),
-                Bytes(target.text.bytes()),
-            ],
-        );
+        return back_remark(alloc, from - to, name, target);
     }
+    ahead_remark(alloc, to - from, name, target)
+}
+
+// What is said of a label so many bytes back.
+fn back_remark<'a>(
+    alloc: Global,
+    distance: u64,
+    name: &Part<'a>,
+    target: &Part<'a>,
+) -> Result<Remark, AllocError>
+    ensures { IfOk result (λ r. kept_remark r ≡ back_remark distance name.now target.now) }
+{
+    let word = name.text.bytes();
+    let label = target.text.bytes();
     make_remark(
         alloc,
         target.column,
         &[
             Bytes(b"the label "),
-            Bytes(target.text.bytes()),
+            Bytes(label),
             Bytes(b" is "),
-            Number(to - from),
-            Bytes(b" bytes ahead, and "),
-            Bytes(name.text.bytes()),
-            Bytes(b" reaches 127; "),
-            Bytes(name.text.bytes()),
+            Number(distance),
+            Bytes(b" bytes back, and "),
+            Bytes(word),
+            Bytes(b" reaches 128; "),
+            Bytes(word),
             Bytes(b"$ reaches further, by a line RES "),
-            Bytes(target.text.bytes()),
+            Bytes(label),
+        ],
+    )
+}
+
+// What is said of a label so many bytes ahead.
+fn ahead_remark<'a>(
+    alloc: Global,
+    distance: u64,
+    name: &Part<'a>,
+    target: &Part<'a>,
+) -> Result<Remark, AllocError>
+    ensures { IfOk result (λ r. kept_remark r ≡ ahead_remark distance name.now target.now) }
+{
+    let word = name.text.bytes();
+    let label = target.text.bytes();
+    make_remark(
+        alloc,
+        target.column,
+        &[
+            Bytes(b"the label "),
+            Bytes(label),
+            Bytes(b" is "),
+            Number(distance),
+            Bytes(b" bytes ahead, and "),
+            Bytes(word),
+            Bytes(b" reaches 127; "),
+            Bytes(word),
+            Bytes(b"$ reaches further, by a line RES "),
+            Bytes(label),
         ],
     )
 }
@@ -277,42 +308,76 @@ fn indirect_remark<'a>(
         (λ r. kept_remark r ≡ indirect_remark place offset name.now target.now) }
 {
     if !place.is_reserve {
-        return make_remark(
-            alloc,
-            target.column,
-            &[
-                Bytes(b"the label "),
-                Bytes(target.text.bytes()),
-                Bytes(b" is on no RES line, and "),
-                Bytes(name.text.bytes()),
-                Bytes(b" leads on by one: a label of its own on a line RES "),
-                Bytes(target.text.bytes()),
-            ],
-        );
+        return unreserved_remark(alloc, name, target);
     }
     let from = (u64::from(offset) + 1) / 2 * 2;
     let to = u64::from(place.offset);
     if to < from {
-        return make_remark(
-            alloc,
-            target.column,
-            &[
-                Bytes(b"the RES line of "),
-                Bytes(target.text.bytes()),
-                Bytes(b" is before this line, and has to come after it"),
-            ],
-        );
+        return early_remark(alloc, target);
     }
+    far_remark(alloc, to - from, name, target)
+}
+
+// What is said of a label on no RES line.
+fn unreserved_remark<'a>(
+    alloc: Global,
+    name: &Part<'a>,
+    target: &Part<'a>,
+) -> Result<Remark, AllocError>
+    ensures { IfOk result (λ r. kept_remark r ≡ unreserved_remark name.now target.now) }
+{
+    let word = name.text.bytes();
+    let label = target.text.bytes();
+    make_remark(
+        alloc,
+        target.column,
+        &[
+            Bytes(b"the label "),
+            Bytes(label),
+            Bytes(b" is on no RES line, and "),
+            Bytes(word),
+            Bytes(b" leads on by one: a label of its own on a line RES "),
+            Bytes(label),
+        ],
+    )
+}
+
+// What is said of a RES line before the one that names it.
+fn early_remark(alloc: Global, target: &Part) -> Result<Remark, AllocError>
+    ensures { IfOk result (λ r. kept_remark r ≡ early_remark target.now) }
+{
     make_remark(
         alloc,
         target.column,
         &[
             Bytes(b"the RES line of "),
             Bytes(target.text.bytes()),
+            Bytes(b" is before this line, and has to come after it"),
+        ],
+    )
+}
+
+// What is said of a RES line so many bytes ahead.
+fn far_remark<'a>(
+    alloc: Global,
+    distance: u64,
+    name: &Part<'a>,
+    target: &Part<'a>,
+) -> Result<Remark, AllocError>
+    ensures { IfOk result (λ r. kept_remark r ≡ far_remark distance name.now target.now) }
+{
+    let word = name.text.bytes();
+    let label = target.text.bytes();
+    make_remark(
+        alloc,
+        target.column,
+        &[
+            Bytes(b"the RES line of "),
+            Bytes(label),
             Bytes(b" is "),
-            Number(to - from),
+            Number(distance),
             Bytes(b" bytes ahead, and "),
-            Bytes(name.text.bytes()),
+            Bytes(word),
             Bytes(b" reaches 510"),
         ],
     )

@@ -2,6 +2,8 @@
 ghost use Rattle.std.specs.Prelude.{◌≡◌, ◌++◌, ◌∷◌, [], map, IfOk, OnOk};
 ghost use Rattle.tool_texts.specs.Reports.{report_of};
 ghost use Rattle.assembly_errors.specs.Drafts.{draft_of};
+ghost use Rattle.assembly_errors.specs.NameWords.{named_line};
+ghost use Rattle.assembly_errors.specs.ReachWords.{reach_remark, undefined_remark};
 ghost use Rattle.assembly_errors.specs.Remarks.{kept_remark};
 ghost use Rattle.assembly_errors.specs.Reports.{error_remark, report_for, reports_of, shown_remark};
 
@@ -78,16 +80,25 @@ fn error_remark(alloc: Global, draft: &Draft, finding: &Finding) -> Result<Remar
         LineError::NoForm => form_remark(alloc, finding.number, code),
         LineError::UnknownName => name_remark(alloc, &named_line(code)),
         LineError::OutOfRange => range_remark(alloc, &named_line(code)),
-        LineError::UndefinedLabel => {
-            undefined_remark(alloc, draft.definitions.as_slice(), &named_line(code))
-        }
+        LineError::UndefinedLabel => undefined_in(alloc, draft, code),
         LineError::RepeatedLabel => repeated_remark(alloc, draft.definitions.as_slice(), code),
-        LineError::OutOfReach => reach_remark(
-            alloc,
-            &draft.known.labels,
-            finding.offset,
-            &named_line(code),
-        ),
+        LineError::OutOfReach => reach_in(alloc, draft, finding.offset, code),
         LineError::HunkTooLong => length_remark(alloc, code),
     }
+}
+
+// What is said of a label that is defined nowhere in the text.
+fn undefined_in(alloc: Global, draft: &Draft, code: &[u8]) -> Result<Remark, AllocError>
+    ensures { IfOk result (λ r. kept_remark r
+        ≡ undefined_remark (draft_of draft.now).definitions (named_line code.now)) }
+{
+    undefined_remark(alloc, draft.definitions.as_slice(), &named_line(code))
+}
+
+// What is said of a label out of reach of this offset.
+fn reach_in(alloc: Global, draft: &Draft, offset: u32, code: &[u8]) -> Result<Remark, AllocError>
+    ensures { IfOk result (λ r. kept_remark r
+        ≡ reach_remark (draft_of draft.now).layout.table offset (named_line code.now)) }
+{
+    reach_remark(alloc, &draft.known.labels, offset, &named_line(code))
 }
