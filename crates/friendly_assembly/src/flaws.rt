@@ -110,9 +110,7 @@ pub fn push_words(text: &mut Vec<u8>, wrong: Wrong) -> Result<(), AllocError>
         ),
         Wrong::Backslash => push_sentence(
             text,
-            &[Bytes(
-                b"a line end is *n and a tab *t, with a star in place of the backslash",
-            )],
+            &[Bytes(b"a line end is *n and a tab *t, with a star in place of the backslash")],
         ),
         Wrong::CharacterCount(n) => push_character_count(text, n),
         Wrong::StringElsewhere => {
@@ -143,9 +141,7 @@ pub fn push_words(text: &mut Vec<u8>, wrong: Wrong) -> Result<(), AllocError>
         ),
         Wrong::ConstantName => push_sentence(
             text,
-            &[Bytes(
-                b"the name of a constant is a letter, and up to 15 letters and digits",
-            )],
+            &[Bytes(b"the name of a constant is a letter, and up to 15 letters and digits")],
         ),
         Wrong::SetAgain { name, line } => push_sentence(
             text,
@@ -187,15 +183,11 @@ pub fn push_words(text: &mut Vec<u8>, wrong: Wrong) -> Result<(), AllocError>
         ),
         Wrong::UnlabelledString => push_sentence(
             text,
-            &[Bytes(
-                b"a string has a label before it, by which it is found",
-            )],
+            &[Bytes(b"a string has a label before it, by which it is found")],
         ),
         Wrong::StringForm => push_sentence(
             text,
-            &[Bytes(
-                b"the line is DS and a text in double quotes, with nothing after",
-            )],
+            &[Bytes(b"the line is DS and a text in double quotes, with nothing after")],
         ),
         Wrong::LongString(n) => push_sentence(
             text,
@@ -206,15 +198,11 @@ pub fn push_words(text: &mut Vec<u8>, wrong: Wrong) -> Result<(), AllocError>
         ),
         Wrong::NoBreakSpace => push_sentence(
             text,
-            &[Bytes(
-                b"a no-break space is here, and no blank: the space bar alone makes a blank",
-            )],
+            &[Bytes(b"a no-break space is here, and no blank: the space bar alone makes a blank")],
         ),
         Wrong::TypographicQuote => push_sentence(
             text,
-            &[Bytes(
-                b"a typographic quote is here: the quotes of the keyboard are ' and \"",
-            )],
+            &[Bytes(b"a typographic quote is here: the quotes of the keyboard are ' and \"")],
         ),
     }
 }

@@ -31,7 +31,10 @@ pub struct Names<'m, 'a> {
 }
 
 /// The constant of this name; `None` exactly where none is set.
-pub fn constant_named<'m, 'a>(constants: &'m ConstantTable<'a>, name: &[u8]) -> Option<&'m Constant<'a>>
+pub fn constant_named<'m, 'a>(
+    constants: &'m ConstantTable<'a>,
+    name: &[u8],
+) -> Option<&'m Constant<'a>>
     ensures { option_copied result ≡ kept constants.now name.now }
 {
     constants.get(name)

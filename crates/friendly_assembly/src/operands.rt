@@ -22,19 +22,14 @@ pub fn operand_of<'a>(names: &Names<'_, 'a>, part: &Part<'a>) -> Result<Value<'a
 {
     let text = part.text.as_slice();
     match text.split_first() {
-        Some((b'\'', others)) => {
-            character_by(part, quote_flaw(b'\'', part.column, others))
-        }
+        Some((b'\'', others)) => { character_by(part, quote_flaw(b'\'', part.column, others)) }
         Some((b'"', _)) => Err(Flaw::new(part.column, Wrong::StringElsewhere)),
         _ => word_value(names, part.column, is_minus(text), without_sign(text)),
     }
 }
 
 // The character that a part is, where nothing is wrong in its quotes.
-fn character_by<'a>(
-    part: &Part<'a>,
-    wrong: Option<Flaw<'a>>,
-) -> Result<Value<'a>, Flaw<'a>>
+fn character_by<'a>(part: &Part<'a>, wrong: Option<Flaw<'a>>) -> Result<Value<'a>, Flaw<'a>>
     ensures { result ≡ character_by part.now wrong.entry }
 {
     match wrong {
@@ -104,7 +99,10 @@ fn named_value<'a>(names: &Names<'_, 'a>, minus: bool, word: &'a [u8]) -> Value<
 {
     match constant_named(names.constants, word) {
         Some(constant) => constant.value.signed(minus),
-        None => Value::new(minus, Digits::Text(Lent::new(first_label(names.firsts, word)))),
+        None => Value::new(
+            minus,
+            Digits::Text(Lent::new(first_label(names.firsts, word))),
+        ),
     }
 }
 

@@ -126,7 +126,8 @@ pub fn quoted(part: &[u8]) -> &[u8]
     ensures { result.now ≡ quoted part.now }
 {
     let (_, rest) = part.split_at(part.len().min(1));
-    rest.split_at(rest.len().min(part.len().saturating_sub(2))).0
+    rest.split_at(rest.len().min(part.len().saturating_sub(2)))
+        .0
 }
 
 /// The first character that a quoted text stands for, and what comes after it; `None` exactly where it is empty.

@@ -84,7 +84,15 @@ fn add_labels<'a>(
         return Ok(());
     };
     add_first(alloc, constants, known, n, line, first)?;
-    add_others(alloc, constants, known, n, line, name_of(first.text.as_slice()), others)
+    add_others(
+        alloc,
+        constants,
+        known,
+        n,
+        line,
+        name_of(first.text.as_slice()),
+        others,
+    )
 }
 
 // The first label of line n.
@@ -198,7 +206,13 @@ fn report_constant<'a>(
                 name,
                 line: constant.line,
             };
-            push_report(alloc, &mut known.reports, n, line, Flaw::new(label.column, wrong))
+            push_report(
+                alloc,
+                &mut known.reports,
+                n,
+                line,
+                Flaw::new(label.column, wrong),
+            )
         }
         None => Ok(()),
     }
@@ -271,5 +285,11 @@ fn report_again<'a>(
         name: Lent::new(name_of(label.text.as_slice())),
         line: before,
     };
-    push_report(alloc, &mut known.reports, n, line, Flaw::new(label.column, wrong))
+    push_report(
+        alloc,
+        &mut known.reports,
+        n,
+        line,
+        Flaw::new(label.column, wrong),
+    )
 }

@@ -40,10 +40,7 @@ pub struct KeptConstants<'a> {
 }
 
 /// The constants that lines set, and what is wrong in these lines.
-pub fn constants_of<'a>(
-    alloc: Global,
-    lines: &[&'a [u8]],
-) -> Result<KeptConstants<'a>, AllocError>
+pub fn constants_of<'a>(alloc: Global, lines: &[&'a [u8]]) -> Result<KeptConstants<'a>, AllocError>
     ensures { let all = constants_of no_constants 1 (map (λ line. line.now) lines.now) in
         IfOk result (λ known. constants_kept known ≡ all) }
 {
@@ -87,7 +84,11 @@ fn add<'a>(
     match setting {
         Ok(None) => Ok(()),
         Ok(Some(Setting { name, value })) => {
-            set(&mut known.table, name.as_slice(), Constant { value, line: n })
+            set(
+                &mut known.table,
+                name.as_slice(),
+                Constant { value, line: n },
+            )
         }
         Err(flaw) => push_report(alloc, &mut known.reports, n, line, flaw),
     }

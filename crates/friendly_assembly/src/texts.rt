@@ -29,7 +29,15 @@ pub fn friendly_text(alloc: Global, name: &[u8], text: &[u8]) -> Result<ToolText
         firsts: &labels.firsts,
     };
     let forms = form_reports(alloc, &names, lines.as_slice())?;
-    tell(alloc, name, text, lines.as_slice(), constants, labels, forms)
+    tell(
+        alloc,
+        name,
+        text,
+        lines.as_slice(),
+        constants,
+        labels,
+        forms,
+    )
 }
 
 // What is wrong, if something is, or else the plain text.

@@ -60,6 +60,10 @@ fn write_told<K: Sink>(told: &ToolText, out: &mut K) -> Status
     ensures ends { IsTextEnd result }
     ensures cause { HasFaultCause Status.WriteFault (K.faults out.old) (K.faults out.new) result }
 {
-    let status = if told.is_wrong { Status::Refused } else { Status::Done };
+    let status = if told.is_wrong {
+        Status::Refused
+    } else {
+        Status::Done
+    };
     status_after(write_text(out, told.bytes.as_slice()), status)
 }

@@ -15,6 +15,6 @@ pub returns : goal.returns
 returns c =
     let first = c.args.first in
     let each : (name : List ℕ) → labels_in_map c.insert.new.self name ≡ update bytes_eq (labels_in_map c.args.firsts.now) c.args.name.now (Some first.now) name =
-        λ name. ap option_copied (btree_map_updates_str c.args.name.now c.args.firsts.now c.insert.new.self _ c.in_ok-insert.ensures.updates name)
-            ∙ copied (bytes_eq c.args.name.now name) first (kept c.args.firsts.now name) in
+    λ name. ap option_copied (btree_map_updates_str c.args.name.now c.args.firsts.now c.insert.new.self _ c.in_ok-insert.ensures.updates name)
+    ∙ copied (bytes_eq c.args.name.now name) first (kept c.args.firsts.now name) in
     λ i. λ name. each name i

@@ -11,5 +11,5 @@ returns c =
     let labels = labels_kept c.in_ok-labels.labels in
     let forms = map report_of c.in_ok-forms.forms.items in
     let whole = told_from c.args.name.now c.args.text.now (map (λ line. line.now) lines) constants labels forms c.in_ok-lines.ensures (rw c.as_slice.ensures.value at c.in_ok-constants.ensures)
-            (rw c.as_slice-2.ensures.value at c.in_ok-labels.ensures) (rw c.as_slice-3.ensures.value at c.in_ok-forms.ensures) in
+    (rw c.as_slice-2.ensures.value at c.in_ok-labels.ensures) (rw c.as_slice-3.ensures.value at c.in_ok-forms.ensures) in
     rw (sym whole) (rw c.as_slice-4.ensures.value at c.tell.ensures)

@@ -12,5 +12,5 @@ returns c =
     let others = map (λ line. line.now) c.in-Some.others.now in
     let before = c.args.text.now.items in
     let parts : (before ++ f first) ++ flat_map (λ line. 10 ∷ f line) others ≡ before ++ join_with_byte 10 (map f (first ∷ others)) =
-        append_assoc before (f first) (flat_map (λ line. 10 ∷ f line) others) ∙ ap (λ rest. before ++ rest) (sym (joined_lines f first others)) in
+    append_assoc before (f first) (flat_map (λ line. 10 ∷ f line) others) ∙ ap (λ rest. before ++ rest) (sym (joined_lines f first others)) in
     rw (c.in-Some.ensures.cases.0, sym parts) (rw c.in_ok-push_line.ensures at c.push_others.ensures)
