@@ -5,6 +5,6 @@ pub mod reports;
 pub mod results;
 pub mod sentences;
 
-pub use reports::{Report, reports_text};
+pub use reports::{Report, push_blanks, reports_text};
 pub use results::ToolText;
 pub use sentences::{Said, push_sentence};

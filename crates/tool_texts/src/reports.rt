@@ -188,8 +188,8 @@ fn shown_byte(byte: u8) -> u8
     }
 }
 
-// Adds so many blanks.
-fn push_blanks(text: &mut Vec<u8>, count: usize) -> Result<(), AllocError>
+/// Adds so many blanks.
+pub fn push_blanks(text: &mut Vec<u8>, count: usize) -> Result<(), AllocError>
     ensures { OnOk result (text.new.items ≡ text.old.items ++ replicate count 32) }
 {
     for done in 0..count {
