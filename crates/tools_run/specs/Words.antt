@@ -4,11 +4,14 @@ use Rattle.std.specs.Option.{option_map}
 use Rattle.std.specs.Str.{bytes_eq}
 use Rattle.tools_run.specs.declared.commands.Asked.{Asked}
 use Rattle.tools_run.specs.declared.commands.Tool.{Tool}
-use Rattle.tools_run.specs.declared.commands.Tool.TheVariants.{Asm}
+use Rattle.tools_run.specs.declared.commands.Tool.TheVariants.{Asm, AsmErrors}
 
 -- the tool that a word is, if it is one
 abbrev pub tool_named : List ℕ → Option Tool
-tool_named word = if bytes_eq word (codes "asm") then Some Asm else None
+tool_named word =
+    if bytes_eq word (codes "asm") then Some Asm else
+    if bytes_eq word (codes "asm-errors") then Some AsmErrors else
+    None
 
 -- a tool, with a name of its input
 abbrev pub asked_with_name : List ℕ → List ℕ → Option Asked
@@ -22,4 +25,4 @@ asked_of _ = None
 
 -- what is said where the words ask for nothing
 abbrev pub usage_text : List ℕ
-usage_text = codes "* usage: tripos_tools asm or asm NAME\n"
+usage_text = codes "* usage: tripos_tools asm or asm NAME, asm-errors or asm-errors NAME\n"

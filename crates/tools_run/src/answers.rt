@@ -8,6 +8,7 @@ ghost use Rattle.tool_texts.specs.Told.{told_of};
 ghost use Rattle.tools_run.specs.ToolAnswers.{IsToolAnswer, told, told_answer};
 
 use crate::commands::{Asked, Tool};
+use assembly_errors::assembly_errors;
 use byte_streams::{Sink, write_text};
 use friendly_assembly::friendly_text;
 use program_answers::{Status, TextAnswers, status_after};
@@ -34,6 +35,7 @@ fn answer_text<K: Sink>(alloc: Global, asked: &Asked, text: &[u8], out: &mut K) 
 
 // The same, as the one answer that there is.
 fn answer_by_tool<K: Sink>(alloc: Global, asked: &Asked, text: &[u8], out: &mut K) -> Status
+    requires { length text.now < 2 ^ 30 }
     ensures answer { Answers (told_answer (told asked.now.tool asked.now.name text.now))
         (K.holds out.old) (K.holds out.new) result }
     ensures ends { IsTextEnd result }
@@ -47,10 +49,12 @@ fn answer_by_tool<K: Sink>(alloc: Global, asked: &Asked, text: &[u8], out: &mut 
 
 // What the tool gives of a text with this name.
 fn tell(alloc: Global, tool: Tool, name: &[u8], text: &[u8]) -> Result<ToolText, AllocError>
+    requires { length text.now < 2 ^ 30 }
     ensures { IfOk result (λ t. told_of t ≡ told tool name.now text.now) }
 {
     match tool {
         Tool::Asm => friendly_text(alloc, name, text),
+        Tool::AsmErrors => assembly_errors(alloc, name, text),
     }
 }
 

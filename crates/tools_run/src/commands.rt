@@ -9,6 +9,8 @@ use friendly_assembly::parts::Lent;
 pub enum Tool {
     /// The plain assembly text of one with more forms.
     Asm,
+    /// What is wrong in an assembly text, in words.
+    AsmErrors,
 }
 
 /// What is asked for: a tool, and how its input is called.
@@ -48,6 +50,7 @@ fn tool_named(word: &str) -> Option<Tool>
 {
     match word {
         "asm" => Some(Tool::Asm),
+        "asm-errors" => Some(Tool::AsmErrors),
         _ => None,
     }
 }
