@@ -1,4 +1,4 @@
-// Runs a program of web/page.html without a browser: node web/run.js tripos|tripos_show WORD.. < INPUT
+// Runs a program of web/page.html without a browser: node web/run.js tripos|tripos_show|tripos_tools WORD.. < INPUT
 import { readFileSync, writeSync } from 'node:fs';
 import { bytes_of_base64, run, unpacked, words_of_failure } from './src/program.js';
 

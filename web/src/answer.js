@@ -1,4 +1,4 @@
-// All that the machine says comes from here: `answer` gives what one of the two proved programs answers.
+// All that the machine says comes from here: `answer` gives what one of the proved programs answers.
 import { bytes_of_base64, missing, unpacked } from './program.js';
 
 // a worker that has run an instance of more bytes than this is not used again, so that its memory is given back
@@ -8,7 +8,7 @@ const compiled = new Map();
 const idle = [];
 let script = null;
 
-/** The compiled program of this name, `tripos` or `tripos_show`, as a Promise. */
+/** The compiled program of this name, `tripos`, `tripos_show` or `tripos_tools`, as a Promise. */
 function program_of(name) {
   if (!compiled.has(name)) {
     const compile = async () => WebAssembly.compile(await unpacked(bytes_of_base64(document.getElementById(`program-${name}`).textContent)));
@@ -31,17 +31,17 @@ function keep_spare() {
   }
 }
 
-/** Starts a worker and compiles both programs, so that the first answer comes soon. */
+/** Starts a worker and compiles the programs, so that the first answer comes soon. */
 export function prepare() {
   if (missing()) return;
   keep_spare();
   // a program that cannot be compiled is told by the first answer
-  for (const name of ['tripos', 'tripos_show']) program_of(name).catch(() => {});
+  for (const name of ['tripos', 'tripos_show', 'tripos_tools']) program_of(name).catch(() => {});
 }
 
 /**
- * What a program answers, as a Promise. `program` is `tripos` or `tripos_show`, `words` an array with the command and its words, and `bytes`
- * a Uint8Array with what is on standard input.
+ * What a program answers, as a Promise. `program` is `tripos`, `tripos_show` or `tripos_tools`, `words` an array with the command and its
+ * words, and `bytes` a Uint8Array with what is on standard input.
  *
  * The Promise gives `{status, bytes, milliseconds}`: the exit status, the bytes on standard output, and how long the program ran; or
  * `{failed}`, a sentence that says why there is no answer: the browser lacks what the program needs, or memory, or the answer is too long.

@@ -3,16 +3,24 @@ import { ask } from './asking.js';
 import { meaning, refusal_in } from './codes.js';
 import { expected_at } from './expected.js';
 import { read_module } from './module_text.js';
+import { plain_text } from './plain_text.js';
 
 const MOST_ERRORS = 10;
 
-/** The module of an assembly text as `{module}`, or `{error: {line, code, words, expected}}`. */
-export async function assembled(text) {
-  const given = await ask('tripos', ['asm'], text, 'the assembler reads the text');
+/** The module of a program, a file, as `{module}`, or `{error: {line, code, words, expected}}`. What is wrong in a form of its own has no code. */
+export async function assembled(file) {
+  const { plain, errors } = await plain_text(file);
+  if (errors) return { error: errors[0] };
+  const given = await ask('tripos', ['asm'], plain, 'the assembler reads the text');
   if (given.status === 0) return { module: given.text };
   const refused = refusal_in(given.text);
   if (!refused) throw new Error(`The assembler ended with status ${given.status}.`);
-  return { error: error_at(refused, text.split('\n')) };
+  return { error: error_at(refused, plain.split('\n')) };
+}
+
+/** What is wrong, with its code, if it has one. */
+export function words_of_error({ words, code }) {
+  return code === '' ? words : `${words} (code ${code})`;
 }
 
 function error_at({ line, code }, lines) {
@@ -21,11 +29,13 @@ function error_at({ line, code }, lines) {
 }
 
 /**
- * The lines in error, up to ten, the first one as the assembler names it. The others are those that it names when the lines before are taken
+ * The lines in error, up to ten: where forms are wrong, these alone. Otherwise the first one is as the assembler names it. The others are those that it names when the lines before are taken
  * away; what depends on lines that are away is left out.
  */
-export async function errors_in(text) {
-  const lines = text.split('\n');
+export async function errors_in(file) {
+  const { plain, errors: wrong } = await plain_text(file);
+  if (wrong) return wrong.slice(0, MOST_ERRORS);
+  const lines = plain.split('\n');
   const kept = lines.slice();
   const errors = [];
   while (errors.length < MOST_ERRORS) {
@@ -44,10 +54,11 @@ export async function errors_in(text) {
 
 /**
  * Where the bytes of each line are, as the assembler says: `[{line, offset}]` in the hunk, by the text with a label on each line and a global
- * for each label. The text is one that assembles.
+ * for each label. The program is one that assembles.
  */
-export async function offsets_in(text) {
-  const lines = text.split('\n').map((line) => line.replace(/\r$/, '').replace(/;.*/, '').replace(/^ +| +$/g, ''));
+export async function offsets_in(file) {
+  const { plain } = await plain_text(file);
+  const lines = plain.split('\n').map((line) => line.replace(/\r$/, '').replace(/;.*/, '').replace(/^ +| +$/g, ''));
   const labels = lines.map((line) => /^([^ ]*):(?= |$)/.exec(line)?.[1] ?? '');
   let fresh = 'z';
   while (labels.some((label) => label.startsWith(fresh))) fresh += 'z';

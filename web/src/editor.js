@@ -1,4 +1,5 @@
 // The editor of one file: a text area over a layer with its colours, and a column of line numbers.
+import { words_of_error } from './assemble.js';
 import { button, fill, make } from './elements.js';
 import { parts_of_line } from './highlight.js';
 import { is_assembly } from './project.js';
@@ -80,7 +81,7 @@ export function make_editor(name, text, { on_text, on_break, on_caret }) {
   return {
     node,
     mark({ errors = [], breaks = [] }) {
-      shown.errors = new Map(errors.map((it) => [it.line, `${it.words} (code ${it.code})`]));
+      shown.errors = new Map(errors.map((it) => [it.line, words_of_error(it)]));
       shown.breaks = new Set(breaks);
       repaint();
     },
@@ -103,8 +104,8 @@ export function make_editor(name, text, { on_text, on_break, on_caret }) {
 export function error_strip(errors, go_to) {
   return errors.map((it) => button('', () => go_to(it.line), { class: 'error-line', 'data-line': String(it.line) }))
     .map((node, at) => {
-      const { line, words, code, expected, shown } = errors[at];
-      return fill(node, make('strong', {}, `! Line ${line}: `), `${words} (code ${code})`, shown ? make('code', {}, shown) : null,
+      const { line, expected, shown } = errors[at];
+      return fill(node, make('strong', {}, `! Line ${line}: `), words_of_error(errors[at]), shown ? make('code', {}, shown) : null,
         expected ? make('span', { class: 'expected' }, expected) : null);
     });
 }

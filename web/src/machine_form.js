@@ -1,6 +1,6 @@
 // The form of the machine: which one it is, and what is put into it.
 import { button, choice, fill, labelled, make } from './elements.js';
-import { edit, is_assembly } from './project.js';
+import { edit, is_assembly, program_name } from './project.js';
 import { state, watch } from './state.js';
 
 const KINDS = [['bare', 'bare: one program, no kernel'], ['guests', 'guests: a kernel and tasks'], ['shell', 'shell: with files and a shell']];
@@ -88,7 +88,7 @@ function task_fields(item, at, programs) {
 function program_fields(item, at, programs) {
   return make('div', { class: 'item', 'data-item': String(at) },
     file_choice(at, item.file, programs, (file) => edit_item(at, { file }, false), 'Program of the shell'),
-    make('span', { class: 'means' }, `typed as ${item.file.replace(/\.asm$/, '')}`), remove_button(at, item.file));
+    make('span', { class: 'means' }, `typed as ${program_name(item.file)}`), remove_button(at, item.file));
 }
 
 function text_fields(item, at) {
@@ -156,7 +156,7 @@ function draw_form(node) {
       project.kind === 'shell' ? make('label', { class: 'check' }, reporter, ' task 2 reports faults') : null),
     is_kernel ? kernel_parts()
       : make('p', { class: 'help' },
-        'The files that end in .asm are put in, in the order of their tabs, the first one at byte 800. Anything else is left out.'));
+        'The files that end in .asm or .s are put in, in the order of their tabs, the first one at byte 800. Anything else is left out.'));
 }
 
 function mark_problem(node) {

@@ -13,9 +13,9 @@ export async function programs_of(made) {
   if (!made?.text) return [];
   if (!known.has(made)) {
     known.set(made, Promise.all(made.programs.map(async (program) => {
-      const text = file_named(program.file, made.project)?.text ?? '';
-      const { module } = await assembled(text);
-      return { ...program, bytes: module ? 4 * read_module(module).code_end : 0, lines: module ? await offsets_in(text) : [] };
+      const file = file_named(program.file, made.project) ?? { name: program.file, text: '' };
+      const { module } = await assembled(file);
+      return { ...program, bytes: module ? 4 * read_module(module).code_end : 0, lines: module ? await offsets_in(file) : [] };
     })));
   }
   return known.get(made);

@@ -45,7 +45,7 @@ function show_in_editor(file, line) {
 }
 
 async function new_file(begin, end, text) {
-  const name = await ask_for_text('A new file', 'Its name; a program ends in .asm', free_name(begin, end), (given) => fault_of_name(given));
+  const name = await ask_for_text('A new file', 'Its name; a program ends in .asm, or in .s where it has more forms', free_name(begin, end), (given) => fault_of_name(given));
   if (name) { add_file(name, is_assembly(name) ? text : ''); editor_for(name).focus(); }
 }
 

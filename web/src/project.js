@@ -2,7 +2,7 @@
 import { change, state } from './state.js';
 
 /**
- * A project without files. `kind` is bare, guests or shell. `files` are `{name, text}`; those that end in .asm are programs. `items` are what
+ * A project without files. `kind` is bare, guests or shell. `files` are `{name, text}`; those that end in .asm or .s are programs. `items` are what
  * is put into a machine with a kernel, in their order: `{kind: 'task', id, pri, stack, files}`, `{kind: 'program', file}`,
  * `{kind: 'file', name, file}`, `{kind: 'type', step, text}` and `{kind: 'key', step, hex}`. Numbers are texts, as they are typed. `page` is the page
  * that it was opened from, or an empty text.
@@ -26,12 +26,17 @@ const ITEM_TEXTS = { task: ['id', 'pri', 'stack'], program: ['file'], file: ['na
 
 /** Whether a file's name is that of a program. */
 export function is_assembly(name) {
-  return name.endsWith('.asm');
+  return name.endsWith('.asm') || is_friendly(name);
+}
+
+/** Whether a program's text may have more forms than exact assembly. */
+export function is_friendly(name) {
+  return name.endsWith('.s');
 }
 
 /** The name of a file's program in the machine. */
 export function program_name(name) {
-  return name.replace(/\.asm$/, '');
+  return name.replace(/\.(asm|s)$/, '');
 }
 
 export function file_named(name, project = state.project) {

@@ -1,5 +1,5 @@
 // Makes the text of a session of a project, as ./session makes it, and says what hinders it.
-import { assembled } from './assemble.js';
+import { assembled, words_of_error } from './assemble.js';
 import { code_at, read_module } from './module_text.js';
 import { file_named, is_assembly, program_name } from './project.js';
 import { is_number_in } from './text.js';
@@ -42,15 +42,15 @@ function check_sizes({ kind, store, version, steps, period }) {
 async function module_of(name, project) {
   const file = file_named(name, project);
   if (!file) throw new Hindered('files', `There is no file ${name}.`);
-  const { module, error } = await assembled(file.text);
-  if (error) throw new Hindered({ file: name, line: error.line }, `${name}, line ${error.line}: ${error.words} (code ${error.code}).`);
+  const { module, error } = await assembled(file);
+  if (error) throw new Hindered({ file: name, line: error.line }, `${name}, line ${error.line}: ${words_of_error(error)}.`);
   return module;
 }
 
 async function bare_session(project, made) {
   const { version, store, steps } = project;
   const files = project.files.filter((file) => is_assembly(file.name));
-  if (files.length === 0) throw new Hindered('files', 'A bare machine needs a program: a file whose name ends in .asm.');
+  if (files.length === 0) throw new Hindered('files', 'A bare machine needs a program: a file whose name ends in .asm or .s.');
   let all = '';
   for (const { name } of files) {
     const module = read_module(await module_of(name, project));
@@ -90,7 +90,7 @@ async function add_task({ id, pri, stack, files }, where, parts) {
   if (parts.priorities.has(Number(pri))) throw new Hindered(where, `${parts.priorities.get(Number(pri))} has the priority ${Number(pri)} already.`);
   parts.ids.set(Number(id), where);
   parts.priorities.set(Number(pri), `Task ${Number(id)}`);
-  if (files.length === 0) throw new Hindered(where, `Task ${id} has no program: choose a file whose name ends in .asm.`);
+  if (files.length === 0) throw new Hindered(where, `Task ${id} has no program: choose a file whose name ends in .asm or .s.`);
   if (files.length > most) throw new Hindered(where,
     `A task of version ${parts.project.version} has at most ${most === 1 ? 'one file' : `${most} files`}, and not ${files.length}.`);
   for (const name of files) await add_program(name, where, parts);

@@ -23,7 +23,7 @@ async function make_anew() {
 
 async function errors_of(project) {
   const errors = new Map();
-  for (const { name, text } of project.files) if (is_assembly(name)) errors.set(name, await errors_in(text));
+  for (const file of project.files) if (is_assembly(file.name)) errors.set(file.name, await errors_in(file));
   return errors;
 }
 

@@ -1,0 +1,5 @@
+mod DraftedLines
+mod FirstErrors
+mod FollowedLeads
+mod LikeNames
+mod WiderNames

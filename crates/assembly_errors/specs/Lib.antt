@@ -1,0 +1,15 @@
+pub mod ByteWords
+pub mod Drafts
+pub mod Findings
+pub mod FormWords
+pub mod Hints
+pub mod Leads
+pub mod Likeness
+pub mod NameWords
+pub mod NumberWords
+pub mod Parts
+pub mod ReachWords
+pub mod Refusals
+pub mod Remarks
+pub mod Reports
+pub mod Takes

@@ -1,0 +1,15 @@
+pub mod FlawWords
+pub mod KeptNames
+pub mod LineForms
+pub mod LineLabels
+pub mod Operands
+pub mod Parts
+pub mod PlainLine
+pub mod PlainSources
+pub mod PlainText
+pub mod Quotes
+pub mod Readings
+pub mod SecondLabels
+pub mod Settings
+pub mod StrangeBytes
+pub mod Strings

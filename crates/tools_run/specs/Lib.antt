@@ -1,0 +1,4 @@
+pub mod InputAnswers
+pub mod Leaves
+pub mod ToolAnswers
+pub mod Words

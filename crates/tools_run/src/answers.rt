@@ -1,0 +1,73 @@
+// The answer of a tool to a text.
+ghost use Rattle.std.specs.Prelude.{◌≡◌, ◌<◌, ◌^◌, length, IfOk};
+ghost use Rattle.program_answers.specs.Answer.{Answers};
+ghost use Rattle.program_answers.specs.Answered.{Answered};
+ghost use Rattle.program_answers.specs.Cause.{HasFaultCause};
+ghost use Rattle.program_answers.specs.Input.{IsTextEnd};
+ghost use Rattle.tool_texts.specs.Told.{told_of};
+ghost use Rattle.tools_run.specs.ToolAnswers.{IsToolAnswer, told, told_answer};
+
+use crate::commands::{Asked, Tool};
+use assembly_errors::assembly_errors;
+use byte_streams::{Sink, write_text};
+use friendly_assembly::friendly_text;
+use program_answers::{Status, TextAnswers, status_after};
+use std::alloc::{AllocError, Global};
+use tool_texts::ToolText;
+
+impl TextAnswers for Asked<'_> {
+    ghost is_answer = { IsToolAnswer };
+
+    fn answer<K: Sink>(&self, alloc: Global, text: &[u8], out: &mut K) -> Status {
+        answer_text(alloc, self, text, out)
+    }
+}
+
+// A tool gives its answer to a text.
+fn answer_text<K: Sink>(alloc: Global, asked: &Asked, text: &[u8], out: &mut K) -> Status
+    requires { length text.now < 2 ^ 30 }
+    ensures answer { Answered (IsToolAnswer asked.now text.now) (K.holds out.old) (K.holds out.new) result }
+    ensures ends { IsTextEnd result }
+    ensures cause { HasFaultCause Status.WriteFault (K.faults out.old) (K.faults out.new) result }
+{
+    answer_by_tool(alloc, asked, text, out)
+}
+
+// The same, as the one answer that there is.
+fn answer_by_tool<K: Sink>(alloc: Global, asked: &Asked, text: &[u8], out: &mut K) -> Status
+    requires { length text.now < 2 ^ 30 }
+    ensures answer { Answers (told_answer (told asked.now.tool asked.now.name text.now))
+        (K.holds out.old) (K.holds out.new) result }
+    ensures ends { IsTextEnd result }
+    ensures cause { HasFaultCause Status.WriteFault (K.faults out.old) (K.faults out.new) result }
+{
+    match tell(alloc, asked.tool, asked.name.as_slice(), text) {
+        Ok(told) => write_told(&told, out),
+        Err(AllocError) => Status::WantMemory,
+    }
+}
+
+// What the tool gives of a text with this name.
+fn tell(alloc: Global, tool: Tool, name: &[u8], text: &[u8]) -> Result<ToolText, AllocError>
+    requires { length text.now < 2 ^ 30 }
+    ensures { IfOk result (λ t. told_of t ≡ told tool name.now text.now) }
+{
+    match tool {
+        Tool::Asm => friendly_text(alloc, name, text),
+        Tool::AsmErrors => assembly_errors(alloc, name, text),
+    }
+}
+
+// Writes what a tool gives.
+fn write_told<K: Sink>(told: &ToolText, out: &mut K) -> Status
+    ensures answer { Answers (told_answer (told_of told.now)) (K.holds out.old) (K.holds out.new) result }
+    ensures ends { IsTextEnd result }
+    ensures cause { HasFaultCause Status.WriteFault (K.faults out.old) (K.faults out.new) result }
+{
+    let status = if told.is_wrong {
+        Status::Refused
+    } else {
+        Status::Done
+    };
+    status_after(write_text(out, told.bytes.as_slice()), status)
+}

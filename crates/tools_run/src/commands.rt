@@ -1,0 +1,56 @@
+// Which tool the words of the command line ask for.
+ghost use Rattle.std.specs.Prelude.{◌≡◌, map, string_bytes};
+ghost use Rattle.tools_run.specs.Words.{asked_of, asked_with_name, tool_named};
+
+use friendly_assembly::parts::Lent;
+
+/// A tool.
+#[derive(Clone, Copy)]
+pub enum Tool {
+    /// The plain assembly text of one with more forms.
+    Asm,
+    /// What is wrong in an assembly text, in words.
+    AsmErrors,
+}
+
+/// What is asked for: a tool, and how its input is called.
+#[derive(Drop)]
+pub struct Asked<'w> {
+    /// The tool.
+    pub tool: Tool,
+    /// The name of the input, or nothing where it has none.
+    pub name: Lent<'w>,
+}
+
+/// What the words ask for, or `None` exactly where they ask for nothing: a tool, and the name of its input, where it has one.
+pub fn asked_of(words: &[String]) -> Option<Asked<'_>>
+    ensures { result ≡ asked_of (map string_bytes words.now) }
+{
+    match words {
+        [word] => asked_with_name(word.as_str(), ""),
+        [word, name] => asked_with_name(word.as_str(), name.as_str()),
+        _ => None,
+    }
+}
+
+// A tool, with a name of its input.
+fn asked_with_name<'w>(word: &str, name: &'w str) -> Option<Asked<'w>>
+    ensures { result ≡ asked_with_name word.now name.now }
+{
+    let tool = tool_named(word)?;
+    Some(Asked {
+        tool,
+        name: Lent::new(name.as_bytes()),
+    })
+}
+
+// The tool that a word is, if it is one.
+fn tool_named(word: &str) -> Option<Tool>
+    ensures { result ≡ tool_named word.now }
+{
+    match word {
+        "asm" => Some(Tool::Asm),
+        "asm-errors" => Some(Tool::AsmErrors),
+        _ => None,
+    }
+}

@@ -1,0 +1,25 @@
+// The plain assembly text of a program.
+import { ask } from './asking.js';
+import { is_friendly } from './project.js';
+
+// the status by which the program says that something is wrong in the text
+const REFUSED = 3;
+
+/**
+ * The plain text of a program, a file, as `{plain}`; or `{errors}`, lines where forms are wrong, by their numbers. Line n of the plain text is
+ * made of line n of the file. The bytes of strings are in lines after the last one.
+ */
+export async function plain_text({ name, text }) {
+  if (!is_friendly(name)) return { plain: text };
+  const given = await ask('tripos_tools', ['asm'], text, 'the plain text is made');
+  if (given.status === 0) return { plain: new TextDecoder().decode(given.bytes) };
+  if (given.status !== REFUSED) throw new Error(`The plain text could not be made (status ${given.status}).`);
+  return { errors: errors_of(given.text, text.split('\n')) };
+}
+
+// Each error is a line `line N: WORDS`, and after it come the line and a mark.
+function errors_of(told, lines) {
+  return [...told.matchAll(/^line ([0-9]+): (.*)$/gm)]
+    .map(([, line, words]) => ({ line: Number(line), code: '', words, expected: '', shown: (lines[Number(line) - 1] ?? '').trim() }))
+    .sort((a, b) => a.line - b.line);
+}
