@@ -41,8 +41,8 @@ named_line code =
 -- ---- a name that nothing has
 
 -- a name after which comes no number
-abbrev pub stands_alone : List ℕ → Bool
-stands_alone name = option_map_or (λ takes. not (takes_number takes)) (taken_after name) false
+abbrev pub takes_no_number : List ℕ → Bool
+takes_no_number name = option_map_or (λ takes. not (takes_number takes)) (taken_after name) false
 
 -- a name that nothing has
 abbrev pub plain_name_remark : Part → Remark
@@ -51,7 +51,7 @@ plain_name_remark name = unknown_remark name (codes "there is no instruction and
 -- the same, where this follows
 abbrev pub first_name_remark : Part → Part → Bool → Remark
 first_name_remark name first is_labelled =
-    if not is_labelled && is_label_part name.text && stands_alone first.text then
+    if not is_labelled && is_label_part name.text && takes_no_number first.text then
     said_of
     name.column
     (codes "there is no instruction and no directive " ∷ name.text ∷ codes "; a label has a colon after it: " ∷ name.text ∷ codes ": " ∷ first.text ∷ [])

@@ -1,6 +1,6 @@
 // What is said of names that nothing has, and of numbers that are out of range.
 ghost use Rattle.std.specs.Prelude.{◌≡◌, ◌++◌, IfOk, OnOk};
-ghost use Rattle.assembly_errors.specs.NameWords.{begins_with_label, boundary_remark, family_of, first_name_remark, global_remark, holds_part, is_boundary, is_of_family, name_after, name_remark, named_line, number_remark, outside_remark, plain_name_remark, range_remark, ranged_remark, stands_alone, taken_number_remark, taking_name_text, tells_width, unknown_name_remark, wider, wider_at, wider_data, wider_instruction, wider_name_text, wider_text, wider_than_text, without_last};
+ghost use Rattle.assembly_errors.specs.NameWords.{begins_with_label, boundary_remark, family_of, first_name_remark, global_remark, holds_part, is_boundary, is_of_family, name_after, name_remark, named_line, number_remark, outside_remark, plain_name_remark, range_remark, ranged_remark, takes_no_number, taken_number_remark, taking_name_text, tells_width, unknown_name_remark, wider, wider_at, wider_data, wider_instruction, wider_name_text, wider_text, wider_than_text, without_last};
 ghost use Rattle.assembly_errors.specs.Remarks.{kept_remark};
 
 use crate::form_words::{is_global, is_label_part, no_form_remark, takes_number, unknown_remark};
@@ -105,7 +105,7 @@ fn first_name_remark<'a>(
     ensures { IfOk result
         (λ r. kept_remark r ≡ first_name_remark name.now first.now is_labelled) }
 {
-    if !is_labelled && is_label_part(name.text.bytes()) && stands_alone(first.text.bytes()) {
+    if !is_labelled && is_label_part(name.text.bytes()) && takes_no_number(first.text.bytes()) {
         return make_remark(
             alloc,
             name.column,
@@ -123,8 +123,8 @@ fn first_name_remark<'a>(
 }
 
 // Whether this is a name after which comes no number.
-fn stands_alone(name: &[u8]) -> bool
-    ensures { result ≡ stands_alone name.now }
+fn takes_no_number(name: &[u8]) -> bool
+    ensures { result ≡ takes_no_number name.now }
 {
     match taken_after(name) {
         None => false,
