@@ -2,4 +2,5 @@ mod DraftedLines
 mod FirstErrors
 mod FollowedLeads
 mod LikeNames
+mod ToolAnswers
 mod WiderNames

@@ -40,11 +40,18 @@ hex_digits part =
 abbrev pub sign_of : List ℕ → List ℕ
 sign_of part = if starts_with nat_eq part (codes "-") then codes "-" else []
 
+-- what a text with more forms may have
+abbrev pub s_form_of : List ℕ → List ℕ
+s_form_of part = if starts_with nat_eq (unsigned_part part) (codes "0x") then codes "; a .s text may have it" else []
+
+-- a part is this number in hex
+abbrev pub known_hex_text : List ℕ → ℕ → List ℕ
+known_hex_text part n = joined (codes "a number is decimal: " ∷ part ∷ codes " is " ∷ sign_of part ∷ decimal n ∷ s_form_of part ∷ [])
+
 -- what a part is that has this value in hex
 abbrev pub hex_value_text : List ℕ → Option ℕ → List ℕ
 hex_value_text part None = joined (codes "a number is decimal, and not hex as " ∷ part ∷ [])
-hex_value_text part (Some n) =
-    joined (codes "a number is decimal: " ∷ part ∷ codes " is " ∷ sign_of part ∷ decimal n ∷ codes "; a .s text may have it" ∷ [])
+hex_value_text part (Some n) = known_hex_text part n
 
 -- what a part is whose hex digits these are
 abbrev pub hex_text : List ℕ → List ℕ → List ℕ

@@ -3,7 +3,7 @@ ghost use Rattle.std.specs.Prelude.{◌≡◌, ◌++◌, OnOk};
 ghost use Rattle.std.specs.Char.{is_ascii_alphanumeric, is_ascii_digit, is_ascii_hexdigit};
 ghost use Rattle.std.specs.List.{list_all};
 ghost use Rattle.module_text.specs.TextReader.Numbers.{number_in};
-ghost use Rattle.assembly_errors.specs.NumberWords.{after_hex_mark, are_digits, are_hex_digits, begins_with_digit, hex_digits, hex_text, is_number_part, is_number_text, is_word, no_label_text, no_number_text, no_word_text, sign_of, unsigned_part};
+ghost use Rattle.assembly_errors.specs.NumberWords.{after_hex_mark, are_digits, are_hex_digits, begins_with_digit, hex_digits, hex_text, is_number_part, is_number_text, is_word, known_hex_text, no_label_text, no_number_text, no_word_text, s_form_of, sign_of, unsigned_part};
 
 use crate::leads::LineText;
 use assembly::assembly_text::numbers::number;
@@ -121,18 +121,27 @@ fn push_hex(words: &mut Vec<u8>, part: &[u8], hex: &[u8]) -> Result<(), AllocErr
             words,
             &[Bytes(b"a number is decimal, and not hex as "), Bytes(part)],
         ),
-        Some(n) => push_sentence(
-            words,
-            &[
-                Bytes(b"a number is decimal: "),
-                Bytes(part),
-                Bytes(b" is "),
-                Bytes(sign_of(part)),
-                Number(n),
-                Bytes(b"; a .s text may have it"),
-            ],
-        ),
+        Some(n) => push_hex_value(words, part, n),
     }
+}
+
+// Adds that a part is this number in hex.
+fn push_hex_value(words: &mut Vec<u8>, part: &[u8], n: u64) -> Result<(), AllocError>
+    ensures { OnOk result (words.new.items ≡ words.old.items ++ known_hex_text part.now n) }
+{
+    let sign = sign_of(part);
+    let form = s_form_of(part);
+    push_sentence(
+        words,
+        &[
+            Bytes(b"a number is decimal: "),
+            Bytes(part),
+            Bytes(b" is "),
+            Bytes(sign),
+            Number(n),
+            Bytes(form),
+        ],
+    )
 }
 
 // The sign of a part.
@@ -140,6 +149,17 @@ fn sign_of(part: &[u8]) -> &'static [u8]
     ensures { result.now ≡ sign_of part.now }
 {
     if part.starts_with(b"-") { b"-" } else { b"" }
+}
+
+// What a text with more forms may have.
+fn s_form_of(part: &[u8]) -> &'static [u8]
+    ensures { result.now ≡ s_form_of part.now }
+{
+    if unsigned_part(part).starts_with(b"0x") {
+        b"; a .s text may have it"
+    } else {
+        b""
+    }
 }
 
 // The number that 1 to 8 hex digits are.
