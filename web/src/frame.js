@@ -92,7 +92,7 @@ export function page_foot(forget) {
   return make('footer', {},
     make('details', {}, make('summary', {}, 'What is proved, and what is trusted'),
       make('p', {}, make('strong', {}, 'Proved: '),
-        'all answers on this page come from two programs, and each function of them is proved to meet its contract: on any input they end, cannot fail, and write exactly what their definition says.'),
+        'all answers on this page come from three programs, and each function of them is proved to meet its contract: on any input they end, cannot fail, and write exactly what their definition says.'),
       make('p', {}, make('strong', {}, 'Trusted, and tried by all stored cases: '),
         'that the module of the proved program, compiled for WebAssembly, does the same; a few lines of C and JavaScript that hand it its input; and your browser. The page only draws: what you see is computed by the programs, but for the words around it.'),
       make('p', {}, 'Sum of the sources of the programs: ', make('code', {}, sum_named('crates').slice(0, 16)), '; of the page: ',

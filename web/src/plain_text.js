@@ -14,11 +14,11 @@ export async function plain_text({ name, text }) {
   const given = await ask('tripos_tools', ['asm'], text, 'the plain text is made');
   if (given.status === 0) return { plain: new TextDecoder().decode(given.bytes) };
   if (given.status !== REFUSED) throw new Error(`The plain text could not be made (status ${given.status}).`);
-  return { errors: errors_of(given.text, text.split('\n')) };
+  return { errors: form_errors(given.text, text.split('\n')) };
 }
 
 // Each error is a line `line N: WORDS`, and after it come the line and a mark.
-function errors_of(told, lines) {
+function form_errors(told, lines) {
   return [...told.matchAll(/^line ([0-9]+): (.*)$/gm)]
     .map(([, line, words]) => ({ line: Number(line), code: '', words, expected: '', shown: (lines[Number(line) - 1] ?? '').trim() }))
     .sort((a, b) => a.line - b.line);

@@ -1,4 +1,4 @@
-// Runs one of the two programs, without a page or a worker, so that node can use it too.
+// Runs one of the programs, without a page or a worker, so that node can use it too.
 
 /** The most bytes of an answer that are kept. */
 export const MOST_BYTES = 1 << 28;

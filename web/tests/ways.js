@@ -13,7 +13,7 @@ const top = join(dirname(fileURLToPath(import.meta.url)), '../..');
 const page = process.argv[2] ?? join(top, 'web/page.html');
 const html = readFileSync(page, 'latin1');
 const part = (id) => Buffer.from(new RegExp(`id="${id}">([^<]*)<`).exec(html)[1], 'base64');
-const modules = Object.fromEntries(['tripos', 'tripos_show'].map((name) => [name, new WebAssembly.Module(gunzipSync(part(`program-${name}`)))]));
+const modules = Object.fromEntries(['tripos', 'tripos_show', 'tripos_tools'].map((name) => [name, new WebAssembly.Module(gunzipSync(part(`program-${name}`)))]));
 const map = files_of_archive(gunzipSync(part('files')));
 const answered = (program, words, input) => Buffer.from(run(modules[program], words, new TextEncoder().encode(input)).bytes).toString('latin1');
 const before_closing = (text) => text.replace(/\n\* stopped after [^\n]*\n$/, '');
@@ -139,6 +139,37 @@ const ways = {
     await tab.click('#run');
     await tab.until("document.getElementById('ending').textContent.includes('program.asm, line 3')");
     same('a refusal names the line', (await text_of('#problem')).includes('program.asm, line 3'), true);
+  },
+
+  async 'a program in friendly assembly'() {
+    await open_example('hello');
+    await tab.value("[...document.querySelectorAll('.file-tools button')].find((it) => it.textContent === 'Rename').click()");
+    await tab.until("document.querySelector('dialog[open] input') !== null");
+    await set('dialog[open] input', 'program.s');
+    await tab.click('dialog[open] input');
+    await tab.press('Enter');
+    const area = 'textarea[data-file="program.s"]';
+    await tab.until(`document.querySelector('${area}') !== null`);
+    const type = async (text) => {
+      await tab.click(area);
+      await tab.value(`document.querySelector('${area}').select()`);
+      await tab.type(text);
+    };
+    const wrong = "SET wrch 19\n        L wrch\n        L '\\n'\n        L 0x1g\n";
+    await type(wrong);
+    await tab.until("document.querySelectorAll('.error-line').length === 2");
+    const told = [...answered('tripos_tools', ['asm'], wrong).matchAll(/^line ([0-9]+): (.*)$/gm)];
+    same('the lines of wrong forms', await tab.value("[...document.querySelectorAll('.error-line')].map((it) => it.dataset.line).join()"), told.map(([, line]) => line).join());
+    same('what is wrong there', (await text_of('.error-line')).includes(told[0][2]), true);
+    const right = "SET wrch 19 ; writes a character\n        L wrch\n        SP3\n        L 'Q'\n        SP4\n        SYS\n        L 0x0\n        SP3\n        SP4\n        SYS\n";
+    await type(right);
+    await tab.until("document.querySelectorAll('.error-line').length === 0");
+    await run_page();
+    const made = await session();
+    same('what it writes', await text_of('#console'), before_closing(answered('tripos', ['run'], made)));
+    same('which is its character', await text_of('#console'), 'Q');
+    const module = answered('tripos', ['asm'], answered('tripos_tools', ['asm'], right)).split('\n');
+    same('its code is in the session', made.includes(module[1].replace(/ /g, '').slice(8)), true);
   },
 
   async 'steps forth and back'() {
