@@ -1,13 +1,12 @@
 // What the assembler says of a text: its module, or the lines in error.
 import { ask } from './asking.js';
-import { meaning, refusal_in } from './codes.js';
-import { expected_at } from './expected.js';
+import { refusal_in } from './codes.js';
 import { read_module } from './module_text.js';
-import { plain_text } from './plain_text.js';
+import { plain_text, told_errors } from './plain_text.js';
 
 const MOST_ERRORS = 10;
 
-/** The module of a program, a file, as `{module}`, or `{error: {line, code, words, expected}}`. What is wrong in a form of its own has no code. */
+/** The module of a program, a file, as `{module}`, or `{error: {line, code, words}}`. What is wrong in a form of its own has no code. */
 export async function assembled(file) {
   const { plain, errors } = await plain_text(file);
   if (errors) return { error: errors[0] };
@@ -15,7 +14,7 @@ export async function assembled(file) {
   if (given.status === 0) return { module: given.text };
   const refused = refusal_in(given.text);
   if (!refused) throw new Error(`The assembler ended with status ${given.status}.`);
-  return { error: error_at(refused, plain.split('\n')) };
+  return { error: (await plain_errors(plain)).find(({ line }) => line === refused.line) };
 }
 
 /** What is wrong, with its code, if it has one. */
@@ -23,33 +22,15 @@ export function words_of_error({ words, code }) {
   return code === '' ? words : `${words} (code ${code})`;
 }
 
-function error_at({ line, code }, lines) {
-  const text = lines[line - 1] ?? '';
-  return { line, code, words: meaning('asm', code), expected: expected_at(code, text, lines), shown: text.trim() };
+/** The lines in error, up to ten: where forms are wrong, these alone. */
+export async function errors_in(file) {
+  const { plain, errors } = await plain_text(file);
+  return (errors ?? await plain_errors(plain)).slice(0, MOST_ERRORS);
 }
 
-/**
- * The lines in error, up to ten: where forms are wrong, these alone. Otherwise the first one is as the assembler names it. The others are those that it names when the lines before are taken
- * away; what depends on lines that are away is left out.
- */
-export async function errors_in(file) {
-  const { plain, errors: wrong } = await plain_text(file);
-  if (wrong) return wrong.slice(0, MOST_ERRORS);
-  const lines = plain.split('\n');
-  const kept = lines.slice();
-  const errors = [];
-  while (errors.length < MOST_ERRORS) {
-    const given = await ask('tripos', ['asm'], kept.join('\n'), 'the assembler reads the text');
-    const refused = refusal_in(given.text);
-    if (!refused || kept[refused.line - 1] === undefined) break;
-    if (errors.length > 0 && ['6', '7'].includes(refused.code)) break;
-    errors.push(error_at(refused, lines));
-    const label = /^ *[A-Za-z][A-Za-z0-9]*:(?= |$)/.exec(kept[refused.line - 1]);
-    const without = label && refused.code !== '5' ? label[0] : '';
-    if (without === kept[refused.line - 1]) break;
-    kept[refused.line - 1] = without;
-  }
-  return errors.sort((a, b) => a.line - b.line);
+async function plain_errors(plain) {
+  const given = await ask('tripos_tools', ['asm-errors'], plain, 'the lines in error are looked for');
+  return told_errors(given.text, plain.split('\n'));
 }
 
 /**

@@ -3,17 +3,6 @@ import { files } from './files.js';
 
 const meanings = new Map();
 
-// what was expected, for each code of an assembly text
-const EXPECTED = new Map([
-  ['1', 'A line is a label with a colon, or a name in capitals and its operand, or both, with blanks between them. A tab is no blank, and a number is decimal.'],
-  ['2', 'The manual lists all instructions and directives; names are in capitals.'],
-  ['3', 'A byte holds 0 to 255, a half 0 to 65535. For a larger number take LH or LW.'],
-  ['4', 'A label is defined by its name and a colon at the beginning of a line.'],
-  ['5', 'Each label is defined once.'],
-  ['6', 'A jump reaches 128 bytes back and 127 on. For more, name a RES line by an instruction that ends in $.'],
-  ['7', 'A hunk has at most 65,536 words.'],
-]);
-
 const EXPECTED_IN_SESSION = new Map([
   ['1', 'A session has, in this order, TRIPOS, STORE, BARE or TICK, the lines of the machine, and GO; one blank is between two parts, and no line is empty.'],
   ['2', 'The chapter The session text has the range of each number and name.'],
@@ -31,11 +20,6 @@ export async function read_codes() {
 /** What a code means, of a kind of bin/codes. */
 export function meaning(kind, code) {
   return meanings.get(`${kind} ${code}`) ?? `code ${code}`;
-}
-
-/** What was expected where an assembly text has this code. */
-export function expected_in_assembly(code) {
-  return EXPECTED.get(String(code)) ?? '';
 }
 
 /** What was expected where the text of a session has this code. */

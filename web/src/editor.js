@@ -104,8 +104,7 @@ export function make_editor(name, text, { on_text, on_break, on_caret }) {
 export function error_strip(errors, go_to) {
   return errors.map((it) => button('', () => go_to(it.line), { class: 'error-line', 'data-line': String(it.line) }))
     .map((node, at) => {
-      const { line, expected, shown } = errors[at];
-      return fill(node, make('strong', {}, `! Line ${line}: `), words_of_error(errors[at]), shown ? make('code', {}, shown) : null,
-        expected ? make('span', { class: 'expected' }, expected) : null);
+      const { line, shown } = errors[at];
+      return fill(node, make('strong', {}, `! Line ${line}: `), words_of_error(errors[at]), shown ? make('code', {}, shown) : null);
     });
 }

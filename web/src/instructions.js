@@ -30,18 +30,3 @@ export function help_for_line(line) {
   if (!found || !effects.has(found[1])) return null;
   return { name: `${found[1]}${found[2] ? ` ${found[2]}` : ''}`, effect: effect_of(found[1], found[2]) };
 }
-
-/** Whether there is an instruction or directive of this name. */
-export function has_instruction(name) {
-  return effects.has(name);
-}
-
-/** The form of a name's operand; with `is_told` the words of a directive, which say it. */
-export function form_of(name, is_told = false) {
-  return is_told ? effects.get(name)?.effect ?? '' : effects.get(name)?.form ?? '';
-}
-
-/** The names of all instructions and directives. */
-export function instruction_names() {
-  return [...effects.keys()];
-}

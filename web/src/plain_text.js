@@ -14,12 +14,15 @@ export async function plain_text({ name, text }) {
   const given = await ask('tripos_tools', ['asm'], text, 'the plain text is made');
   if (given.status === 0) return { plain: new TextDecoder().decode(given.bytes) };
   if (given.status !== REFUSED) throw new Error(`The plain text could not be made (status ${given.status}).`);
-  return { errors: form_errors(given.text, text.split('\n')) };
+  return { errors: told_errors(given.text, text.split('\n')) };
 }
 
-// Each error is a line `line N: WORDS`, and after it come the line and a mark.
-function form_errors(told, lines) {
-  return [...told.matchAll(/^line ([0-9]+): (.*)$/gm)]
-    .map(([, line, words]) => ({ line: Number(line), code: '', words, expected: '', shown: (lines[Number(line) - 1] ?? '').trim() }))
+/**
+ * The lines in error that a tool tells of these lines, by their numbers. Each is a line `line N: WORDS`, with ` (code C)` after it where the program has a
+ * code for it, and after it come the line and a mark.
+ */
+export function told_errors(told, lines) {
+  return [...told.matchAll(/^line ([0-9]+): (.*?)(?: \(code ([0-9]+)\))?$/gm)]
+    .map(([, line, words, code = '']) => ({ line: Number(line), code, words, shown: (lines[Number(line) - 1] ?? '').trim() }))
     .sort((a, b) => a.line - b.line);
 }

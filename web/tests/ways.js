@@ -134,7 +134,8 @@ const ways = {
     const [, line, code] = /line ([0-9]+) code ([0-9]+)/.exec(answered('tripos', ['asm'], wrong));
     same('the line in error', await tab.value("document.querySelector('.error-line').dataset.line"), line);
     same('its code', new RegExp(`code ${code}\\)`).test(await text_of('.error-line')), true);
-    same('what was expected', (await text_of('.error-line')).includes('L takes a number from 0 to 255'), true);
+    const told = /^line [0-9]+: (.*)$/m.exec(answered('tripos_tools', ['asm-errors'], wrong))[1];
+    same('what was expected', (await text_of('.error-line')).includes(told), true);
     same('the mark at the line', await tab.value("[...document.querySelectorAll('.gutter .has-error')].map((it) => it.dataset.line).join()"), '3,4');
     await tab.click('#run');
     await tab.until("document.getElementById('ending').textContent.includes('program.asm, line 3')");

@@ -1,5 +1,5 @@
 -- The lines that are wrong in themselves, or after those before them.
-use Rattle.std.proofs.Common.{◌≡◌, ◌∙◌, ℕ, ◌+◌, Bool, true, false, cond, Option, Some, None, Result, Ok, Err, List, [], ◌∷◌, ◌++◌, refl, sym, ap, subst}
+use Rattle.std.proofs.Common.{◌≡◌, ℕ, ◌+◌, Bool, true, false, Option, Some, None, Result, Ok, Err, List, [], ◌∷◌, ◌++◌, refl}
 use Rattle.std.specs.Prelude.{is_some}
 use Rattle.module_text.specs.TextReader.Refusal.{Refusal, refusal}
 use Rattle.module_text.specs.TextReader.Steps.{◌>>=◌}

@@ -1,8 +1,6 @@
 -- The first line in error.
-use Rattle.std.proofs.Common.{◌≡◌, ◌∙◌, ℕ, Bool, true, Option, Some, Result, Ok, Err, List, [], ◌++◌, refl, sym, ap, subst}
+use Rattle.std.proofs.Common.{◌≡◌, ◌∙◌, ℕ, Result, Ok, Err, List, [], refl, sym}
 use Rattle.std.specs.Result.{result_err}
-use Rattle.std.specs.List.{filter_map}
-use Rattle.module_text.specs.declared.modules.Module.{Module}
 use Rattle.module_text.specs.TextReader.Lines.{lines_of}
 use Rattle.module_text.specs.TextReader.Refusal.{Refusal}
 use Rattle.module_text.specs.TextReader.Steps.{◌>>=◌}
@@ -10,8 +8,8 @@ use Rattle.assembly.specs.AssemblyText.Assembly.{assembly_of, module_of}
 use Rattle.assembly.specs.AssemblyText.Encoding.{Code, encode}
 use Rattle.assembly.specs.AssemblyText.Places.{first_offset}
 use Rattle.assembly.specs.AssemblyText.Survey.{Layout, no_lines, survey}
-use Rattle.assembly_errors.specs.Drafts.{Draft, drafted, is_none, no_draft}
-use Rattle.assembly_errors.specs.Findings.{finding_of, findings_of, whole_draft, with_findings}
+use Rattle.assembly_errors.specs.Drafts.{Draft, drafted, no_draft}
+use Rattle.assembly_errors.specs.Findings.{findings_of, whole_draft, with_findings}
 use Rattle.assembly_errors.specs.Refusals.{first_refusal}
 use Rattle.assembly_errors.proofs.DraftedLines.{Agrees, drafted_agrees, first-more}
 use Rattle.assembly_errors.proofs.FollowedLeads.{Follows, drafted_follows, followed}

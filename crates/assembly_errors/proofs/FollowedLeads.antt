@@ -1,5 +1,5 @@
 -- The lines that name a label.
-use Rattle.std.proofs.Common.{◌≡◌, ◌∙◌, ℕ, ◌+◌, Bool, true, false, cond, Option, Some, None, Result, Ok, Err, List, [], ◌∷◌, ◌++◌, length, refl, sym, ap, subst, append-nil}
+use Rattle.std.proofs.Common.{◌≡◌, ◌∙◌, ℕ, ◌+◌, Bool, true, false, Option, Some, None, Result, Ok, Err, List, [], ◌∷◌, ◌++◌, length, refl, sym, subst, append-nil}
 use Rattle.std.proofs.lemmas.List.Elements.{filter_map-append}
 use Rattle.std.specs.Prelude.{is_some}
 use Rattle.std.specs.Result.{result_err}
@@ -12,7 +12,6 @@ use Rattle.assembly.specs.AssemblyText.LineErrors.{code_of}
 use Rattle.assembly.specs.AssemblyText.LineText.{line_of}
 use Rattle.assembly.specs.AssemblyText.Parts.{parts_of}
 use Rattle.assembly.specs.AssemblyText.Pieces.{piece_of}
-use Rattle.assembly.specs.AssemblyText.Places.{end_of}
 use Rattle.assembly.specs.AssemblyText.Refusal.{at_line}
 use Rattle.assembly.specs.AssemblyText.Survey.{Layout, admitted, survey, with_line as with_line_placed}
 use Rattle.assembly.specs.declared.assembly_text.errors.LineError.{LineError}
@@ -23,7 +22,7 @@ use Rattle.assembly.specs.declared.assembly_text.statements.Statement.{Statement
 use Rattle.assembly.specs.declared.assembly_text.statements.Statement.TheVariants.{Fixed, Align, Relative, Indirect, Reserve, Address, Global}
 use Rattle.assembly.proofs.AssemblyText.PieceFits.{piece_fits}
 use Rattle.assembly_errors.specs.Drafts.{Draft, drafted, found_with, leads_with, loose_label, with_admitted, with_error, with_label, with_line, with_loose_label, with_reading}
-use Rattle.assembly_errors.specs.Findings.{blamed, finding_of, is_blamed}
+use Rattle.assembly_errors.specs.Findings.{finding_of, is_blamed}
 use Rattle.assembly_errors.specs.Leads.{NamingLine, names_label}
 use Rattle.assembly_errors.specs.Refusals.{first_refusal}
 use Rattle.assembly_errors.specs.declared.drafts.Finding.{Finding}

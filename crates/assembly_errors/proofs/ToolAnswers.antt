@@ -1,5 +1,5 @@
 -- What the tool gives, by what the assembler makes of the text.
-use Rattle.std.proofs.Common.{◌≡◌, ◌∙◌, ℕ, Bool, true, false, not, Some, None, Result, Ok, Err, List, [], ◌∷◌, refl, ap}
+use Rattle.std.proofs.Common.{◌≡◌, ◌∙◌, ℕ, not, None, Result, Ok, Err, List, [], ◌∷◌, refl, ap}
 use Rattle.std.specs.Result.{is_err, result_err}
 use Rattle.module_text.specs.declared.modules.Module.{Module}
 use Rattle.module_text.specs.TextReader.Refusal.{Refusal}

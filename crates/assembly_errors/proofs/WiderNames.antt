@@ -1,5 +1,5 @@
 -- The search for an instruction that takes a number.
-use Rattle.std.proofs.Common.{◌≡◌, ℕ, suc, ◌+◌, ◌-◌, ◌<◌, ◌≤◌, Option, Some, None, List, [], ◌∷◌, refl, arith}
+use Rattle.std.proofs.Common.{◌≡◌, ℕ, suc, ◌+◌, ◌-◌, ◌<◌, ◌≤◌, Some, None, List, refl, arith}
 use Rattle.std.specs.Option.{option_map_or}
 use Rattle.assembly_errors.specs.NameWords.{wider_at, wider_from}
 

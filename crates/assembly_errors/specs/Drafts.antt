@@ -1,11 +1,10 @@
 -- The lines of a text, of which some may be in error.
-use Rattle.std.specs.Prelude.{ℕ, ◌+◌, ◌==◌, ◌||◌, Bool, true, false, not, if◌then◌else◌, List, [], ◌∷◌, ◌++◌, length, take, drop, Option, Some, None, is_some, Result, Ok, Err, option_and_then}
+use Rattle.std.specs.Prelude.{ℕ, ◌+◌, ◌==◌, Bool, true, false, if◌then◌else◌, List, [], ◌∷◌, ◌++◌, take, Option, Some, None, is_some, Result, Ok, Err, option_and_then}
 use Rattle.std.specs.List.{position}
 use Rattle.std.specs.Map.{update}
 use Rattle.std.specs.Option.{option_map_or}
 use Rattle.std.specs.Str.{bytes_eq}
 use Rattle.assembly.specs.AssemblyText.KeptLabels.{layout_of}
-use Rattle.assembly.specs.AssemblyText.Labels.{Table}
 use Rattle.assembly.specs.AssemblyText.LineText.{line_of}
 use Rattle.assembly.specs.AssemblyText.Names.{label_of}
 use Rattle.assembly.specs.AssemblyText.Parts.{parts_of}

@@ -1,5 +1,5 @@
 -- What is said of a line that has none of the forms. What a definition gives where nothing is wrong is never said.
-use Rattle.std.specs.Prelude.{ℕ, ◌+◌, ◌-◌, ◌==◌, ◌&&◌, ◌||◌, Bool, true, false, not, if◌then◌else◌, List, [], ◌∷◌, ◌++◌, length, take, drop, codes, is_some, Option, Some, None}
+use Rattle.std.specs.Prelude.{ℕ, ◌+◌, ◌-◌, ◌==◌, ◌&&◌, Bool, true, false, not, if◌then◌else◌, List, [], ◌∷◌, ◌++◌, length, take, drop, codes, is_some, Option, Some, None}
 use Rattle.std.specs.List.{position}
 use Rattle.std.specs.Str.{bytes_eq}
 use Rattle.byte_streams.specs.Pieces.{joined}
@@ -11,7 +11,6 @@ use Rattle.assembly_errors.specs.NumberWords.{is_number_part, no_label_text, no_
 use Rattle.assembly_errors.specs.Parts.{next_part, parts_from}
 use Rattle.assembly_errors.specs.Remarks.{Remark, said_of}
 use Rattle.assembly_errors.specs.Takes.{is_number, operand_text, taken_after}
-use Rattle.assembly_errors.specs.declared.parts.NextPart.{NextPart}
 use Rattle.assembly_errors.specs.declared.parts.Part.{Part}
 use Rattle.assembly_errors.specs.declared.parts.ThreeParts.{ThreeParts}
 use Rattle.assembly_errors.specs.declared.takes.Takes.{Takes}

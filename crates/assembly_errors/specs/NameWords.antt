@@ -1,5 +1,5 @@
 -- What is said of names that nothing has, and of numbers that are out of range.
-use Rattle.std.specs.Prelude.{ℕ, ℤ, pos, negsuc, ◌-◌, ◌==◌, ◌&&◌, ◌||◌, Bool, true, false, not, if◌then◌else◌, List, [], ◌∷◌, ◌++◌, length, take, drop, min, codes, is_some, nat_eq, Option, Some, None, option_and_then}
+use Rattle.std.specs.Prelude.{ℕ, ℤ, negsuc, ◌-◌, ◌==◌, ◌&&◌, ◌||◌, Bool, true, false, not, if◌then◌else◌, List, [], ◌∷◌, ◌++◌, length, take, drop, min, codes, is_some, nat_eq, Option, Some, None, option_and_then}
 use Rattle.std.specs.List.{range_with_len, starts_with}
 use Rattle.std.specs.Option.{option_map_or}
 use Rattle.std.specs.Str.{bytes_eq}

@@ -2,7 +2,6 @@
 use Rattle.std.specs.Prelude.{ℕ, ◌==◌, ◌&&◌, ◌||◌, Bool, false, not, if◌then◌else◌, List, [], ◌∷◌, length, drop, codes, decimal, is_some, nat_eq, nat_lt, Option, Some, None}
 use Rattle.std.specs.Char.{is_ascii_alphabetic, is_ascii_alphanumeric, is_ascii_digit, is_ascii_hexdigit}
 use Rattle.std.specs.List.{list_all, starts_with}
-use Rattle.std.specs.Option.{option_map_or}
 use Rattle.byte_streams.specs.Pieces.{joined}
 use Rattle.module_text.specs.TextReader.Numbers.{number_in}
 use Rattle.assembly.specs.AssemblyText.Numbers.{number_of}

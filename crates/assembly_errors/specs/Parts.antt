@@ -1,5 +1,5 @@
 -- The parts of a line, each with its columns.
-use Rattle.std.specs.Prelude.{ℕ, ◌+◌, ◌-◌, ◌==◌, not, List, [], length, take, drop, Option, Some, None}
+use Rattle.std.specs.Prelude.{ℕ, ◌+◌, ◌-◌, ◌==◌, not, List, [], length, take, drop, Some, None}
 use Rattle.std.specs.List.{position, position_or_len}
 use Rattle.std.specs.Option.{option_map_or}
 use Rattle.assembly_errors.specs.declared.parts.NextPart.{NextPart}
