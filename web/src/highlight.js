@@ -1,6 +1,7 @@
-// The parts of an assembly line, for their colours; each is also told by its place.
-const PARTS = /(;.*$)|^( *[A-Za-z][A-Za-z0-9]*:)|([A-Z][A-Z0-9]*\$?)(?![A-Za-z0-9])|(-?\b[0-9]+\b)|([A-Za-z][A-Za-z0-9]*)/g;
-const PART_KINDS = ['comment', 'label', 'name', 'number', 'target'];
+// The parts of an assembly line, for their colours; each is also told by its place. A text in quotes comes first, since a semicolon in it begins
+// no comment.
+const PARTS = /("(?:\*.|[^"*])*"?|'(?:\*.|[^'*])*'?)|(;.*$)|^( *[A-Za-z][A-Za-z0-9]*:)|([A-Z][A-Z0-9]*\$?)(?![A-Za-z0-9])|(-?\b(?:0[xX][0-9A-Fa-f]+|[0-9]+)\b)|([A-Za-z][A-Za-z0-9]*)/g;
+const PART_KINDS = ['number', 'comment', 'label', 'name', 'number', 'target'];
 
 /** An assembly line as `[kind, text]`; what has no kind has an empty one. */
 export function parts_of_line(line) {
