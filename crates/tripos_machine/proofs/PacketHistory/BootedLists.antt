@@ -136,9 +136,9 @@ stored-valid : (words : List ℕ) (l : Lists) (k j : Kernel) → AreValid l → 
 stored-valid words l k j v lists plain =
     record { lists = subst AreValid (sym lists) v; plain = plain-like (with_store words l k) j (plain-stored words l k v.owns) lists plain }
 
-first-valid : (s : Session) → HasKernel s → HasValidImage (first_kernel s)
+first-image : (s : Session) → HasKernel s → HasValidImage (first_kernel s)
 unfolding first_kernel
-first-valid s h = stored-valid (replicate s.store 0) (first_lists s) (first_kernel s) (first_kernel s) (first-valid s h) refl refl
+first-image s h = stored-valid (replicate s.store 0) (first_lists s) (first_kernel s) (first_kernel s) (first-valid s h) refl refl
 
 files-valid : (lines : List SessionLine) (k j : Kernel) → with_files lines k ≡ Ok j → HasValidImage k → (j.lists ≡ k.lists) × HasValidImage j
 unfolding with_files
@@ -196,5 +196,5 @@ booted-is s h x is = on (with_lines s.lines (first_kernel s)) refl is
         let first : HasBegun s (first_kernel s) = first-begun s in
         let version : (first_kernel s).lists.version ≡ s.version = ap (λ n. n.version) first.ready.numbers in
         subst (λ (y : Stepped). IsBooted y.kernel) same
-        (dispatched-is s h k (lines-begun s h (first_kernel s) k first e) (lines-valid s.version s.lines (first_kernel s) k (boot-lines s h.lawful) version e (first-valid s h)))
+        (dispatched-is s h k (lines-begun s h (first_kernel s) k first e) (lines-valid s.version s.lines (first_kernel s) k (boot-lines s h.lawful) version e (first-image s h)))
     on (Err refusal) e f = cc
