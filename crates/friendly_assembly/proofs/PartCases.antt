@@ -1,5 +1,5 @@
 -- Lists of so many parts.
-use Rattle.std.proofs.Common.{◌≡◌, ℕ, ◌<◌, ◌≤◌, List, [], ◌∷◌, length, get_or, ap, arith}
+use Rattle.std.proofs.Common.{◌≡◌, ◌<◌, ◌≤◌, List, [], ◌∷◌, length, get_or, ap, arith}
 use Rattle.friendly_assembly.specs.declared.parts.Part.{Part}
 use Rattle.friendly_assembly.specs.Strings.{operands_flaw, text_flaw}
 

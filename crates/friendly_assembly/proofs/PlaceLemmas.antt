@@ -1,5 +1,5 @@
 -- Where something is first, or the end.
-use Rattle.std.proofs.Common.{◌≡◌, ℕ, Bool, List, length, arith}
+use Rattle.std.proofs.Common.{◌≡◌, Bool, List, length, arith}
 use Rattle.std.specs.List.{position, position_or_len}
 use Rattle.std.specs.Option.{unwrap_or}
 use Rattle.std.proofs.lemmas.Bool.Decides.{nat_tests}

@@ -1,12 +1,11 @@
 -- A text that has none of the forms stays as it is.
-use Rattle.std.proofs.Common.{◌≡◌, ◌∙◌, ℕ, ◌+◌, ◌≤◌, ◌==◌, Bool, true, false, cond, ◌||◌, List, [], ◌∷◌, ◌++◌, length, drop, map, Option, None, Some, Result, Ok, refl, sym, ap, arith, append-nil}
+use Rattle.std.proofs.Common.{◌≡◌, ◌∙◌, ℕ, ◌+◌, ◌≤◌, Bool, true, false, cond, ◌||◌, List, [], ◌∷◌, ◌++◌, length, drop, map, Option, None, Some, Ok, refl, ap, arith, append-nil}
 use Rattle.std.specs.Prelude.{codes, nat_le}
 use Rattle.std.specs.List.{AllByRecursion, flat_map, join_with_byte, list_all}
 use Rattle.std.specs.Str.{bytes_eq}
 use Rattle.std.proofs.lemmas.Bool.Decides.{nat_tests}
 use Rattle.std.proofs.lemmas.List.Splits.{join_with_byte-slice_split}
 use Rattle.word_store.proofs.EqualTexts.{bytes_eq-self}
-use Rattle.tool_texts.specs.Reports.{Report}
 use Rattle.friendly_assembly.specs.declared.names.Constant.{Constant}
 use Rattle.friendly_assembly.specs.declared.parts.Part.{Part}
 use Rattle.friendly_assembly.specs.declared.values.Digits.TheVariants.{Text}
@@ -14,9 +13,9 @@ use Rattle.friendly_assembly.specs.LineForms.{form_reports, line_flaws, operand_
 use Rattle.friendly_assembly.specs.LineLabels.{labels_in, name_of, said_in}
 use Rattle.friendly_assembly.specs.Operands.{Names, is_minus, operand_of, operand_text, value, without_sign}
 use Rattle.friendly_assembly.specs.Parts.{parts_of}
-use Rattle.friendly_assembly.specs.PlainLine.{is_plain, is_told, operands_stay, plain_line, plain_line_by, stays}
+use Rattle.friendly_assembly.specs.PlainLine.{is_told, plain_line, stays}
 use Rattle.friendly_assembly.specs.PlainSources.{HasNoForm, IsPlainOperand}
-use Rattle.friendly_assembly.specs.PlainText.{after_lines, friendly_told, has_open_line, lines_of, names_in, plain_text, reports_in}
+use Rattle.friendly_assembly.specs.PlainText.{friendly_told, lines_of, names_in, plain_text, reports_in}
 use Rattle.friendly_assembly.specs.Readings.{code_of}
 use Rattle.friendly_assembly.specs.SecondLabels.{Labels, labels_of, no_labels, with_constant, with_first_by, with_labels}
 use Rattle.friendly_assembly.specs.Settings.{constants_of, no_constants, setting_by, setting_of}

@@ -1,5 +1,5 @@
 -- Strange characters, byte by byte.
-use Rattle.std.proofs.Common.{◌≡◌, ◌∙◌, ℕ, suc, ◌+◌, ◌<◌, List, ◌∷◌, Option, None, length, get_or, drop, drop-cons, refl, add-one}
+use Rattle.std.proofs.Common.{◌≡◌, ℕ, ◌+◌, ◌<◌, List, ◌∷◌, None, length, get_or, drop, drop-cons, refl, add-one}
 use Rattle.friendly_assembly.specs.StrangeBytes.{strange_character, strange_flaw}
 
 step : (k c : ℕ) (cs xs : List ℕ) → xs ≡ c ∷ cs → strange_character xs ≡ None → strange_flaw (k + 1) cs ≡ strange_flaw k xs

@@ -1,7 +1,6 @@
 -- What is told of a text, by whether something is wrong in it.
-use Rattle.std.proofs.Common.{◌≡◌, ℕ, List, [], ◌∷◌, ◌++◌, Bool, false, true, refl, ap}
+use Rattle.std.proofs.Common.{◌≡◌, ℕ, List, [], ◌∷◌, ◌++◌, false, true, refl, ap}
 use Rattle.tool_texts.specs.Reports.{Report, reports_text}
-use Rattle.tool_texts.specs.Told.{Told}
 use Rattle.friendly_assembly.specs.LineForms.{form_reports}
 use Rattle.friendly_assembly.specs.PlainText.{constants_set, friendly_told, lines_of, names_known, plain_text, plain_text_by, reports_in, told_by}
 use Rattle.friendly_assembly.specs.SecondLabels.{Labels, labels_of, no_labels}

@@ -1,5 +1,5 @@
 -- The plain text that a text becomes, or what is wrong in it.
-use Rattle.std.specs.Prelude.{ℕ, ◌==◌, ◌&&◌, ◌||◌, not, Bool, true, false, if◌then◌else◌, List, [], ◌∷◌, ◌++◌, length, map, codes, nat_eq}
+use Rattle.std.specs.Prelude.{ℕ, ◌==◌, ◌&&◌, not, Bool, true, false, if◌then◌else◌, List, [], ◌∷◌, ◌++◌, length, map, codes, nat_eq}
 use Rattle.std.specs.List.{ends_with, flat_map, join_with_byte, slice_split}
 use Rattle.tool_texts.specs.Reports.{Report, reports_text}
 use Rattle.tool_texts.specs.Told.{Told}

@@ -1,5 +1,5 @@
 -- How the bytes of a line are read: outside of quotes, or in them.
-use Rattle.std.specs.Prelude.{ℕ, suc, ◌==◌, ◌&&◌, ◌||◌, Bool, true, false, List, [], ◌∷◌, take, drop, if◌then◌else◌}
+use Rattle.std.specs.Prelude.{ℕ, suc, ◌==◌, ◌||◌, Bool, false, List, [], ◌∷◌, take, drop, if◌then◌else◌}
 use Rattle.std.specs.Str.Lines.{strip_carriage_return}
 use Rattle.friendly_assembly.specs.declared.readings.Reading.{Reading}
 use Rattle.friendly_assembly.specs.declared.readings.Reading.TheVariants.{Outside, Within, AfterStar}

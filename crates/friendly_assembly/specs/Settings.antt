@@ -7,7 +7,6 @@ use Rattle.std.specs.Option.{option_map_or}
 use Rattle.std.specs.Str.{bytes_eq}
 use Rattle.tool_texts.specs.Reports.{Report}
 use Rattle.friendly_assembly.specs.declared.flaws.Flaw.{Flaw}
-use Rattle.friendly_assembly.specs.declared.flaws.Wrong.{Wrong}
 use Rattle.friendly_assembly.specs.declared.flaws.Wrong.TheVariants.{ConstantName, LabelledSetting, NoValue, SetAgain, SettingForm}
 use Rattle.friendly_assembly.specs.declared.names.Constant.{Constant}
 use Rattle.friendly_assembly.specs.declared.parts.Part.{Part}

@@ -1,5 +1,5 @@
 -- Characters that look like a blank or a quote, and are none. They come into a text from a page or a word processor.
-use Rattle.std.specs.Prelude.{ℕ, ◌+◌, ◌==◌, ◌&&◌, ◌||◌, Bool, false, if◌then◌else◌, List, [], ◌∷◌, nat_le, Option, Some, None}
+use Rattle.std.specs.Prelude.{ℕ, ◌+◌, ◌==◌, ◌&&◌, Bool, if◌then◌else◌, List, [], ◌∷◌, nat_le, Option, Some, None}
 use Rattle.friendly_assembly.specs.declared.flaws.Flaw.{Flaw}
 use Rattle.friendly_assembly.specs.declared.flaws.Wrong.{Wrong}
 use Rattle.friendly_assembly.specs.declared.flaws.Wrong.TheVariants.{NoBreakSpace, TypographicQuote}

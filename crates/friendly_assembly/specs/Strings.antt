@@ -1,5 +1,5 @@
 -- Strings: `DS` and a text in quotes.
-use Rattle.std.specs.Prelude.{ℕ, ◌+◌, not, if◌then◌else◌, List, [], ◌∷◌, ◌++◌, length, drop, codes, decimal, nat_eq, nat_lt, Option, Some, None, Result, Ok, Err}
+use Rattle.std.specs.Prelude.{ℕ, not, if◌then◌else◌, List, [], ◌∷◌, ◌++◌, length, drop, codes, decimal, nat_eq, nat_lt, Option, Some, None}
 use Rattle.std.specs.List.{flat_map, starts_with}
 use Rattle.std.specs.Str.{bytes_eq}
 use Rattle.byte_streams.specs.Pieces.{joined}

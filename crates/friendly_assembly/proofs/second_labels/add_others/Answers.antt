@@ -1,4 +1,4 @@
-use Rattle.std.proofs.Common.{◌≡◌, ◌∙◌, ◌+◌, drop, sym, ap}
+use Rattle.std.proofs.Common.{◌∙◌, ◌+◌, drop, sym, ap}
 use Rattle.std.proofs.lemmas.List.{at_drop_more}
 use Rattle.friendly_assembly.specs.KeptNames.{kept, labels_kept}
 use Rattle.friendly_assembly.specs.SecondLabels.{with_other, with_others}

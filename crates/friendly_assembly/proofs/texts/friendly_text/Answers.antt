@@ -1,4 +1,4 @@
-use Rattle.std.proofs.Common.{◌≡◌, map, sym}
+use Rattle.std.proofs.Common.{map, sym}
 use Rattle.tool_texts.specs.Reports.{report_of}
 use Rattle.friendly_assembly.specs.KeptNames.{constants_kept, labels_kept}
 use Rattle.friendly_assembly.proofs.ToldTexts.{told_from}

@@ -1,4 +1,3 @@
-use Rattle.std.proofs.Common.{◌≡◌, ◌∙◌, sym}
 use Rattle.friendly_assembly.proofs.TextLines.{first_line, last_line}
 use Rattle.friendly_assembly.proofs.texts.split_line.Goals as goal
 
