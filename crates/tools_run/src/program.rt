@@ -48,5 +48,8 @@ fn write_usage<K: Sink>(out: &mut K) -> Result<(), SinkFault>
     ensures text { PrintsTo K.Sink out.old out.new usage_text result }
     ensures cause { FailsBySink K.Sink out.old out.new result }
 {
-    write_text(out, b"* usage: tripos_tools asm or asm NAME, asm-errors or asm-errors NAME\n")
+    write_text(
+        out,
+        b"* usage: tripos_tools asm or asm NAME, asm-errors or asm-errors NAME\n",
+    )
 }
