@@ -170,7 +170,9 @@ const ways = {
     same('what it writes', await text_of('#console'), before_closing(answered('tripos', ['run'], made)));
     same('which is its character', await text_of('#console'), 'Q');
     const module = answered('tripos', ['asm'], answered('tripos_tools', ['asm'], right)).split('\n');
-    same('its code is in the session', made.includes(module[1].replace(/ /g, '').slice(8)), true);
+    // the session has the bytes of a word from the lowest on
+    const code = module[1].split(' ').slice(1, 4).map((word) => word.match(/../g).reverse().join('')).join('');
+    same('its code is in the session', made.includes(code), true);
   },
 
   async 'steps forth and back'() {
