@@ -7,6 +7,7 @@ pub mod Leads
 pub mod Likeness
 pub mod NameWords
 pub mod NumberWords
+pub mod OperandWords
 pub mod Parts
 pub mod ReachWords
 pub mod Refusals

@@ -7,7 +7,7 @@ use Rattle.byte_streams.specs.Pieces.{joined}
 use Rattle.instruction_set.specs.InstructionTable.Table.{Entry, entry}
 use Rattle.assembly.specs.AssemblyText.LineText.{before_colon}
 use Rattle.assembly.specs.AssemblyText.Numbers.{is_from_to, number_of}
-use Rattle.assembly_errors.specs.FormWords.{is_global, is_label_part, no_form_remark, takes_number, unknown_remark}
+use Rattle.assembly_errors.specs.OperandWords.{is_global, is_label_part, no_form_remark, takes_number, unknown_remark}
 use Rattle.assembly_errors.specs.NumberWords.{unsigned_part}
 use Rattle.assembly_errors.specs.Parts.{next_part, parts_from}
 use Rattle.assembly_errors.specs.Remarks.{Remark, said_of}

@@ -7,7 +7,7 @@ use Rattle.byte_streams.specs.Pieces.{joined}
 use Rattle.assembly.specs.AssemblyText.Labels.{Table}
 use Rattle.assembly.specs.AssemblyText.LineText.{before_colon}
 use Rattle.assembly.specs.declared.assembly_text.places.Place.{Place}
-use Rattle.assembly_errors.specs.FormWords.{no_form_remark}
+use Rattle.assembly_errors.specs.OperandWords.{no_form_remark}
 use Rattle.assembly_errors.specs.Hints.{is_defined_like, label_hint, label_hint_text}
 use Rattle.assembly_errors.specs.Parts.{next_part}
 use Rattle.assembly_errors.specs.Remarks.{Remark, said_of}

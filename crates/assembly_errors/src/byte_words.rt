@@ -4,9 +4,9 @@ ghost use Rattle.std.specs.List.{position};
 ghost use Rattle.assembly_errors.specs.ByteWords.{begins_with_mark, begins_with_quote, byte_remark, byte_then, first_byte_remark, hex_digit, is_line_byte, is_printable, other_remark, quote_remark, quoted_character, sign_remark, sign_words};
 ghost use Rattle.assembly_errors.specs.Remarks.{kept_remark};
 
-use crate::leads::LineText;
 use crate::remarks::{Remark, make_remark};
 use std::alloc::{AllocError, Global};
+use tool_texts::Lent;
 use tool_texts::Said::{Bytes, Number};
 
 /// Where the first byte is that no part of a line has.
@@ -161,37 +161,37 @@ fn sign_remark(alloc: Global, column: usize, byte: u8) -> Result<Remark, AllocEr
 }
 
 // What is said of a sign that other texts have.
-fn sign_words(byte: u8) -> Option<LineText<'static>>
+fn sign_words(byte: u8) -> Option<Lent<'static>>
     ensures { result ≡ sign_words byte }
 {
     if byte == b'\t' {
-        return Some(LineText::new(
+        return Some(Lent::new(
             b"a tab is here, and only spaces may be between the parts of a line; a .s text may have it",
         ));
     }
     if byte == b'\r' {
-        return Some(LineText::new(
+        return Some(Lent::new(
             b"a carriage return is here, which may be at the end of a line alone, before its LF",
         ));
     }
     if byte == b'#' {
-        return Some(LineText::new(
+        return Some(Lent::new(
             b"# begins no number and no comment: a number is decimal digits, and a comment begins with ;",
         ));
     }
     if byte == b'"' {
-        return Some(LineText::new(
+        return Some(Lent::new(
             b"a quote is here; a text is written byte by byte, by lines DB n; a .s text may have DS",
         ));
     }
     if byte == b'_' {
-        return Some(LineText::new(b"a label has letters and digits alone, and no _"));
+        return Some(Lent::new(b"a label has letters and digits alone, and no _"));
     }
     if byte == b',' {
-        return Some(LineText::new(b"operands have spaces between them, and no comma"));
+        return Some(Lent::new(b"operands have spaces between them, and no comma"));
     }
     if byte == b'+' {
-        return Some(LineText::new(b"a number has no +, and there are no sums"));
+        return Some(Lent::new(b"a number has no +, and there are no sums"));
     }
     None
 }

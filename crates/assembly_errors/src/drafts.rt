@@ -7,7 +7,7 @@ ghost use Rattle.assembly.specs.AssemblyText.Survey.{no_lines};
 ghost use Rattle.assembly_errors.specs.Drafts.{definitions_with, draft_of, drafted, drafted_line, is_said, label_before_colon, leads_with, loose_label, no_draft, with_error, with_line, with_loose_label, with_read};
 ghost use Rattle.assembly_errors.specs.Leads.{names_label};
 
-use crate::leads::{Lead, LineText};
+use crate::leads::Lead;
 use assembly::assembly_text::errors::LineError;
 use assembly::assembly_text::labels::Label;
 use assembly::assembly_text::parts::split_part;
@@ -19,6 +19,7 @@ use assembly::assembly_text::tables::{define, look_up};
 use module_text::split_line;
 use std::alloc::{AllocError, Global};
 use std::collections::BTreeMap;
+use tool_texts::Lent;
 
 /// A line in error.
 #[derive(Drop)]
@@ -26,7 +27,7 @@ pub struct Finding<'a> {
     /// Its number, from 1.
     pub number: u32,
     /// The line.
-    pub text: LineText<'a>,
+    pub text: Lent<'a>,
     /// Where the bytes of the lines before it end.
     pub offset: u32,
     /// What is wrong with it.
@@ -37,7 +38,7 @@ pub struct Finding<'a> {
 #[derive(Drop)]
 pub struct Definition<'a> {
     /// The label.
-    pub name: LineText<'a>,
+    pub name: Lent<'a>,
     /// The number of the line.
     pub number: u32,
 }
@@ -145,7 +146,7 @@ fn add_definition<'a>(
 {
     if let Some(label) = label {
         definitions.push(Definition {
-            name: LineText::new(label.name()),
+            name: Lent::new(label.name()),
             number: n,
         })?;
     }
@@ -191,7 +192,7 @@ fn add_error<'a>(
     if is_said(error, draft.found.is_empty()) {
         draft.found.push(Finding {
             number: n,
-            text: LineText::new(text),
+            text: Lent::new(text),
             offset: draft.known.offset,
             error,
         })?;
@@ -225,7 +226,7 @@ fn add_loose_label<'a>(draft: &mut Draft<'a>, n: u32, text: &'a [u8]) -> Result<
     };
     define(&mut draft.known.labels, label.name(), place)?;
     draft.definitions.push(Definition {
-        name: LineText::new(label.name()),
+        name: Lent::new(label.name()),
         number: n,
     })?;
     Ok(())

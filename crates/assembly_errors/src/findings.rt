@@ -7,12 +7,13 @@ ghost use Rattle.assembly_errors.specs.Drafts.{draft_of, drafted, is_none, no_dr
 ghost use Rattle.assembly_errors.specs.Findings.{finding_of, is_blamed, lead_error, whole_draft, with_findings};
 
 use crate::drafts::{Draft, Finding, read_draft};
-use crate::leads::{Lead, LineText};
+use crate::leads::Lead;
 use assembly::assembly_text::errors::LineError;
 use assembly::assembly_text::pieces::piece_of;
 use assembly::assembly_text::places::Place;
 use std::alloc::{AllocError, Global};
 use std::collections::BTreeMap;
+use tool_texts::Lent;
 
 /// All lines of a text, of which all that are in error are found.
 #[tactic(auto, unfolding(crate::specs::Findings::whole_draft))]
@@ -65,7 +66,7 @@ fn add_finding<'a>(
     if let Some(error) = lead_error(labels, is_right, lead) {
         found.push(Finding {
             number: lead.number(),
-            text: LineText::new(lead.text()),
+            text: Lent::new(lead.text()),
             offset: lead.offset(),
             error,
         })?;

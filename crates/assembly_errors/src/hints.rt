@@ -5,13 +5,12 @@ ghost use Rattle.std.specs.List.{find, list_all, position};
 ghost use Rattle.assembly_errors.specs.Hints.{are_digits, directive_like, instruction_at, instruction_like, is_defined_like, label_hint, label_hint_text, name_hint, name_hint_text, name_like, other_words, spaced_at, spaced_hint, takes_number};
 
 use crate::drafts::Definition;
-use crate::leads::LineText;
 use crate::likeness::{Likeness, is_like};
 use crate::takes::taken_after;
 use instruction_set::row;
 use std::alloc::AllocError;
 use tool_texts::Said::{Bytes, Number};
-use tool_texts::push_sentence;
+use tool_texts::{Lent, push_sentence};
 
 /// What may be meant by a name.
 #[derive(Drop)]
@@ -19,13 +18,13 @@ pub enum Hint<'a> {
     /// Nothing that is known.
     Nothing,
     /// This name, in capitals.
-    Capitals(LineText<'a>),
+    Capitals(Lent<'a>),
     /// A word of other machines, of which this is said.
-    Other(LineText<'a>),
+    Other(Lent<'a>),
     /// A name and a number, with a space.
-    Spaced(LineText<'a>, LineText<'a>),
+    Spaced(Lent<'a>, Lent<'a>),
     /// This name, which is like it.
-    Like(LineText<'a>),
+    Like(Lent<'a>),
 }
 
 /// What may be meant by a name that nothing has.
@@ -67,7 +66,7 @@ fn spaced_at(name: &[u8], place: usize) -> Option<Hint<'_>>
 {
     let (front, digits) = name.split_at(place);
     if are_digits(digits) && takes_number(front) {
-        return Some(Hint::Spaced(LineText::new(front), LineText::new(digits)));
+        return Some(Hint::Spaced(Lent::new(front), Lent::new(digits)));
     }
     None
 }
@@ -94,35 +93,35 @@ fn takes_number(name: &[u8]) -> bool
 }
 
 // What is said of a word that other machines or texts have.
-fn other_words(name: &[u8]) -> Option<LineText<'static>>
+fn other_words(name: &[u8]) -> Option<Lent<'static>>
     ensures { result ≡ other_words name.now }
 {
     if is_like(Likeness::Same, name, b"JMP") || is_like(Likeness::Same, name, b"JUMP") {
-        return Some(LineText::new(b"J jumps to a label"));
+        return Some(Lent::new(b"J jumps to a label"));
     }
     if is_like(Likeness::Same, name, b"CALL") {
-        return Some(LineText::new(b"LF loads the address of a function, and K calls it"));
+        return Some(Lent::new(b"LF loads the address of a function, and K calls it"));
     }
     if is_like(Likeness::Same, name, b"LOAD") {
-        return Some(LineText::new(b"L loads a number, and LP a word of the stack frame"));
+        return Some(Lent::new(b"L loads a number, and LP a word of the stack frame"));
     }
     if is_like(Likeness::Same, name, b"STORE") {
-        return Some(LineText::new(b"SP stores in the stack frame, and SG in a global"));
+        return Some(Lent::new(b"SP stores in the stack frame, and SG in a global"));
     }
     if is_like(Likeness::Same, name, b"RET") {
-        return Some(LineText::new(b"RTN returns from a function"));
+        return Some(Lent::new(b"RTN returns from a function"));
     }
     if is_like(Likeness::Same, name, b"ST4") {
-        return Some(LineText::new(b"there are ST, ST1, ST2 and ST3, and S4 takes 4 from A"));
+        return Some(Lent::new(b"there are ST, ST1, ST2 and ST3, and S4 takes 4 from A"));
     }
     if is_like(Likeness::Same, name, b"SET") || is_like(Likeness::Same, name, b"DS") {
-        return Some(LineText::new(b"a .s text may have it"));
+        return Some(Lent::new(b"a .s text may have it"));
     }
     None
 }
 
 // The first name of an instruction or a directive that is like this one.
-fn name_like(likeness: Likeness, name: &[u8]) -> Option<LineText<'static>>
+fn name_like(likeness: Likeness, name: &[u8]) -> Option<Lent<'static>>
     ensures { result ≡ name_like likeness name.now }
 {
     match instruction_like(likeness, name) {
@@ -133,7 +132,7 @@ fn name_like(likeness: Likeness, name: &[u8]) -> Option<LineText<'static>>
 
 // The first name of an instruction, by its byte, that is like this one.
 #[tactic(auto, using(crate::proofs::LikeNames::like_from_here, crate::proofs::LikeNames::like_from_end))]
-fn instruction_like(likeness: Likeness, name: &[u8]) -> Option<LineText<'static>>
+fn instruction_like(likeness: Likeness, name: &[u8]) -> Option<Lent<'static>>
     ensures { result ≡ instruction_like likeness name.now }
 {
     for byte in 0..256u32 {
@@ -145,41 +144,41 @@ fn instruction_like(likeness: Likeness, name: &[u8]) -> Option<LineText<'static>
 }
 
 // The name of the instruction with this byte, where it is like this one.
-fn instruction_at(likeness: Likeness, name: &[u8], byte: u8) -> Option<LineText<'static>>
+fn instruction_at(likeness: Likeness, name: &[u8], byte: u8) -> Option<Lent<'static>>
     ensures { result ≡ instruction_at likeness name.now byte }
 {
     let row = row(byte)?;
     let other = row.name.as_bytes();
     if is_like(likeness, name, other) {
-        return Some(LineText::new(other));
+        return Some(Lent::new(other));
     }
     None
 }
 
 // The first name of a directive that is like this one.
-fn directive_like(likeness: Likeness, name: &[u8]) -> Option<LineText<'static>>
+fn directive_like(likeness: Likeness, name: &[u8]) -> Option<Lent<'static>>
     ensures { result ≡ directive_like likeness name.now }
 {
     if is_like(likeness, name, b"DB") {
-        return Some(LineText::new(b"DB"));
+        return Some(Lent::new(b"DB"));
     }
     if is_like(likeness, name, b"DH") {
-        return Some(LineText::new(b"DH"));
+        return Some(Lent::new(b"DH"));
     }
     if is_like(likeness, name, b"DW") {
-        return Some(LineText::new(b"DW"));
+        return Some(Lent::new(b"DW"));
     }
     if is_like(likeness, name, b"RES") {
-        return Some(LineText::new(b"RES"));
+        return Some(Lent::new(b"RES"));
     }
     if is_like(likeness, name, b"DA") {
-        return Some(LineText::new(b"DA"));
+        return Some(Lent::new(b"DA"));
     }
     if is_like(likeness, name, b"ALIGN") {
-        return Some(LineText::new(b"ALIGN"));
+        return Some(Lent::new(b"ALIGN"));
     }
     if is_like(likeness, name, b"GLOBAL") {
-        return Some(LineText::new(b"GLOBAL"));
+        return Some(Lent::new(b"GLOBAL"));
     }
     None
 }
@@ -251,7 +250,7 @@ pub fn definition_like<'a>(
     for definition in definitions {
         if is_like(likeness, label, definition.name.bytes()) {
             return Some(Definition {
-                name: LineText::new(definition.name.bytes()),
+                name: Lent::new(definition.name.bytes()),
                 number: definition.number,
             });
         }

@@ -3,37 +3,7 @@ ghost use Rattle.std.specs.Prelude.{◌≡◌, ◌≤◌};
 
 use assembly::assembly_text::statements::Statement;
 use std::marker::Model;
-
-/// The bytes of a line, lent by the text.
-#[derive(Drop)]
-pub struct LineText<'a> {
-    /// The bytes.
-    bytes: &'a [u8],
-}
-
-impl<'a> Model for LineText<'a> {
-    ghost use Rattle.std.specs.Prelude.{ℕ, List};
-
-    ghost Value = { List ℕ };
-
-    ghost view = { λ t. t.bytes.now };
-}
-
-impl<'a> LineText<'a> {
-    /// These bytes.
-    pub fn new(bytes: &'a [u8]) -> LineText<'a>
-        ensures { result ≡ bytes.now }
-    {
-        LineText { bytes }
-    }
-
-    /// The bytes, lent.
-    pub fn bytes(&self) -> &'a [u8]
-        ensures { result.now ≡ self.now }
-    {
-        self.bytes
-    }
-}
+use tool_texts::Lent;
 
 /// A line that names a label, where its bytes begin within a hunk.
 #[derive(Drop)]
@@ -41,7 +11,7 @@ pub struct Lead<'a> {
     /// The number of the line, from 1.
     number: u32,
     /// The line.
-    text: LineText<'a>,
+    text: Lent<'a>,
     /// Where the bytes of the lines before it end.
     offset: u32,
     /// What it says.
@@ -70,7 +40,7 @@ impl<'a> Lead<'a> {
     {
         Lead {
             number,
-            text: LineText::new(text),
+            text: Lent::new(text),
             offset,
             statement,
         }

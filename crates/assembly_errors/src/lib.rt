@@ -11,6 +11,7 @@ pub mod leads;
 pub mod likeness;
 pub mod name_words;
 pub mod number_words;
+pub mod operand_words;
 pub mod parts;
 pub mod reach_words;
 pub mod remarks;

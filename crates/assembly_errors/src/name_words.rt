@@ -3,9 +3,10 @@ ghost use Rattle.std.specs.Prelude.{◌≡◌, ◌++◌, IfOk, OnOk};
 ghost use Rattle.assembly_errors.specs.NameWords.{begins_with_label, boundary_remark, family_of, first_name_remark, global_remark, holds_part, is_boundary, is_of_family, name_after, name_remark, named_line, number_remark, outside_remark, plain_name_remark, range_remark, ranged_remark, takes_no_number, taken_number_remark, taking_name_text, tells_width, unknown_name_remark, wider, wider_at, wider_data, wider_instruction, wider_name_text, wider_text, wider_than_text, without_last};
 ghost use Rattle.assembly_errors.specs.Remarks.{kept_remark};
 
-use crate::form_words::{is_global, is_label_part, no_form_remark, takes_number, unknown_remark};
-use crate::leads::LineText;
 use crate::number_words::unsigned_part;
+use crate::operand_words::{
+    is_global, is_label_part, no_form_remark, takes_number, unknown_remark,
+};
 use crate::parts::{Part, ThreeParts, next_part, three_parts};
 use crate::remarks::{Remark, make_remark};
 use crate::takes::{Takes, taken_after, taken_by_form};
@@ -14,7 +15,7 @@ use assembly::assembly_text::read::before_colon;
 use instruction_set::row;
 use std::alloc::{AllocError, Global};
 use tool_texts::Said::Bytes;
-use tool_texts::push_sentence;
+use tool_texts::{Lent, push_sentence};
 
 /// The name of a line, its operands, and whether a label is before it.
 #[derive(Drop)]
@@ -315,7 +316,7 @@ fn push_taking_name(words: &mut Vec<u8>, wider: &TakingName) -> Result<(), Alloc
 #[derive(Drop)]
 pub struct TakingName {
     /// The name.
-    pub name: LineText<'static>,
+    pub name: Lent<'static>,
     /// What it takes.
     pub takes: Takes,
 }
@@ -337,13 +338,13 @@ fn wider_data(part: &[u8]) -> Option<TakingName>
 {
     if holds_part(Takes::DataHalf, part) {
         return Some(TakingName {
-            name: LineText::new(b"DH"),
+            name: Lent::new(b"DH"),
             takes: Takes::DataHalf,
         });
     }
     if holds_part(Takes::Word, part) {
         return Some(TakingName {
-            name: LineText::new(b"DW"),
+            name: Lent::new(b"DW"),
             takes: Takes::Word,
         });
     }
@@ -401,7 +402,7 @@ fn wider_at(family: &[u8], part: &[u8], byte: u8) -> Option<TakingName>
     let takes = taken_by_form(row.form);
     if is_of_family(family, name) && holds_part(takes, part) {
         return Some(TakingName {
-            name: LineText::new(name),
+            name: Lent::new(name),
             takes,
         });
     }

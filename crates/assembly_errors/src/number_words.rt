@@ -5,12 +5,11 @@ ghost use Rattle.std.specs.List.{list_all};
 ghost use Rattle.module_text.specs.TextReader.Numbers.{number_in};
 ghost use Rattle.assembly_errors.specs.NumberWords.{after_hex_mark, are_digits, are_hex_digits, begins_with_digit, hex_digits, hex_text, is_number_part, is_number_text, is_word, known_hex_text, no_label_text, no_number_text, no_word_text, s_form_of, sign_of, unsigned_part};
 
-use crate::leads::LineText;
 use assembly::assembly_text::numbers::number;
 use module_text::text_reader::digit;
 use std::alloc::AllocError;
 use tool_texts::Said::{Bytes, Number};
-use tool_texts::push_sentence;
+use tool_texts::{Lent, push_sentence};
 
 /// Whether a part is a number.
 #[tactic(auto, unfolding(crate::specs::NumberWords::is_number_part))]
@@ -77,12 +76,12 @@ fn all_digits(digits: &[u8]) -> bool
 }
 
 // The hex digits after `0x` or `$`.
-fn hex_digits(part: &[u8]) -> Option<LineText<'_>>
+fn hex_digits(part: &[u8]) -> Option<Lent<'_>>
     ensures { result ≡ hex_digits part.now }
 {
     let digits = after_hex_mark(part);
     if digits.len() < part.len() && are_hex_digits(digits) {
-        return Some(LineText::new(digits));
+        return Some(Lent::new(digits));
     }
     None
 }

@@ -3,13 +3,13 @@ ghost use Rattle.std.specs.Prelude.{◌≡◌, ◌==◌, ◌≤◌, length, not}
 ghost use Rattle.std.specs.List.{position, position_or_len};
 ghost use Rattle.assembly_errors.specs.Parts.{next_part, part_from, parts_from};
 
-use crate::leads::LineText;
+use tool_texts::Lent;
 
 /// A part of a line.
 #[derive(Drop)]
 pub struct Part<'a> {
     /// Its bytes.
-    pub text: LineText<'a>,
+    pub text: Lent<'a>,
     /// Its first column, from 1.
     pub column: usize,
     /// The column after it.
@@ -22,7 +22,7 @@ pub struct NextPart<'a> {
     /// The part, if there is one.
     pub part: Option<Part<'a>>,
     /// What follows it.
-    pub rest: LineText<'a>,
+    pub rest: Lent<'a>,
 }
 
 /// The first part of what is left of a line.
@@ -32,7 +32,7 @@ pub fn next_part<'a>(line: &[u8], left: &'a [u8]) -> NextPart<'a>
     match first_byte(left) {
         None => NextPart {
             part: None,
-            rest: LineText::new(&[]),
+            rest: Lent::new(&[]),
         },
         Some(start) => part_from(line, left.split_at(start).1),
     }
@@ -45,11 +45,11 @@ fn part_from<'a>(line: &[u8], left: &'a [u8]) -> NextPart<'a>
     let (bytes, rest) = left.split_at(first_space(left));
     NextPart {
         part: Some(Part {
-            text: LineText::new(bytes),
+            text: Lent::new(bytes),
             column: line.len().saturating_sub(left.len()) + 1,
             end: line.len().saturating_sub(rest.len()) + 1,
         }),
-        rest: LineText::new(rest),
+        rest: Lent::new(rest),
     }
 }
 

@@ -5,10 +5,10 @@ ghost use Rattle.assembly_errors.specs.ReachWords.{address_remark, ahead_remark,
 ghost use Rattle.assembly_errors.specs.Remarks.{kept_remark};
 
 use crate::drafts::Definition;
-use crate::form_words::no_form_remark;
 use crate::hints::{definition_like, label_hint, push_label_hint};
 use crate::likeness::Likeness;
 use crate::name_words::NamedLine;
+use crate::operand_words::no_form_remark;
 use crate::parts::{Part, next_part};
 use crate::remarks::{Remark, make_remark};
 use crate::takes::{Takes, taken_after};

@@ -3,10 +3,9 @@ ghost use Rattle.std.specs.Prelude.{◌≡◌, ◌++◌, OnOk};
 ghost use Rattle.friendly_assembly.specs.FlawWords.{count_words, words_of};
 ghost use Rattle.friendly_assembly.specs.Quotes.{flaw, flaw_after};
 
-use crate::parts::Lent;
 use std::alloc::AllocError;
 use tool_texts::Said::{Bytes, Number};
-use tool_texts::push_sentence;
+use tool_texts::{Lent, push_sentence};
 
 /// What is wrong.
 #[derive(Drop)]
@@ -120,7 +119,7 @@ pub fn push_words(text: &mut Vec<u8>, wrong: Wrong) -> Result<(), AllocError>
             text,
             &[
                 Bytes(b"after 0x come hex digits, and not \""),
-                Bytes(digits.as_slice()),
+                Bytes(digits.bytes()),
                 Bytes(b"\""),
             ],
         ),
@@ -147,7 +146,7 @@ pub fn push_words(text: &mut Vec<u8>, wrong: Wrong) -> Result<(), AllocError>
             text,
             &[
                 Bytes(b"the constant "),
-                Bytes(name.as_slice()),
+                Bytes(name.bytes()),
                 Bytes(b" is set on line "),
                 Number(line),
                 Bytes(b" already"),
@@ -159,13 +158,13 @@ pub fn push_words(text: &mut Vec<u8>, wrong: Wrong) -> Result<(), AllocError>
                 Bytes(
                     b"the value is a number, a character, or a constant that is set before, and not ",
                 ),
-                Bytes(part.as_slice()),
+                Bytes(part.bytes()),
             ],
         ),
         Wrong::LabelIsConstant { name, line } => push_sentence(
             text,
             &[
-                Bytes(name.as_slice()),
+                Bytes(name.bytes()),
                 Bytes(b" is a constant, set on line "),
                 Number(line),
                 Bytes(b", and no label too"),
@@ -175,7 +174,7 @@ pub fn push_words(text: &mut Vec<u8>, wrong: Wrong) -> Result<(), AllocError>
             text,
             &[
                 Bytes(b"the label "),
-                Bytes(name.as_slice()),
+                Bytes(name.bytes()),
                 Bytes(b" is defined on line "),
                 Number(line),
                 Bytes(b" already"),

@@ -73,7 +73,7 @@ fn add_said<'a>(
     let Some((word, operands)) = said.split_first() else {
         return Ok(());
     };
-    let text = word.text.as_slice();
+    let text = word.text.bytes();
     if text == b"SET".as_slice() {
         return Ok(());
     }

@@ -28,9 +28,7 @@ fn label_count(parts: &[Part]) -> usize
 fn first_other(parts: &[Part]) -> Option<usize>
     ensures { result ≡ position (λ p. not (is_label p.text)) parts.now }
 {
-    parts
-        .iter()
-        .position(|part| !is_label(part.text.as_slice()))
+    parts.iter().position(|part| !is_label(part.text.bytes()))
 }
 
 // Whether a part is a label: a name and a colon.

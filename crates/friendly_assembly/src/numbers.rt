@@ -8,9 +8,9 @@ ghost use Rattle.friendly_assembly.specs.Operands.{after_mark, are_hex_digits, h
 ghost use Rattle.friendly_assembly.specs.Settings.{are_decimal_digits};
 
 use crate::flaws::Wrong;
-use crate::parts::Lent;
 use module_text::SliceText;
 use module_text::tokens::{Span, word_in};
+use tool_texts::Lent;
 
 /// The most digits of a hex number.
 const MOST_DIGITS: usize = 8;

@@ -9,18 +9,19 @@ ghost use Rattle.friendly_assembly.specs.Quotes.{codes_in};
 use crate::flaws::{Flaw, Wrong};
 use crate::names::{Names, constant_named};
 use crate::numbers::{after_mark, hex_number};
-use crate::parts::{Lent, Part};
+use crate::parts::Part;
 use crate::quotes::{code_count, quote_flaw, quoted, split_code};
 use crate::values::{Digits, Value};
 use std::alloc::AllocError;
 use std::collections::BTreeMap;
+use tool_texts::Lent;
 
 /// What a part that is an operand becomes, or what is wrong with it.
 #[tactic(auto, unfolding(crate::specs::Operands::operand_of))]
 pub fn operand_of<'a>(names: &Names<'_, 'a>, part: &Part<'a>) -> Result<Value<'a>, Flaw<'a>>
     ensures { result ≡ operand_of (names_by names.now.constants.now names.now.firsts.now) part.now }
 {
-    let text = part.text.as_slice();
+    let text = part.text.bytes();
     match text.split_first() {
         Some((b'\'', others)) => { character_by(part, quote_flaw(b'\'', part.column, others)) }
         Some((b'"', _)) => Err(Flaw::new(part.column, Wrong::StringElsewhere)),
@@ -34,7 +35,7 @@ fn character_by<'a>(part: &Part<'a>, wrong: Option<Flaw<'a>>) -> Result<Value<'a
 {
     match wrong {
         Some(wrong) => Err(wrong),
-        None => single_at(part.column, quoted(part.text.as_slice())),
+        None => single_at(part.column, quoted(part.text.bytes())),
     }
 }
 
@@ -127,6 +128,6 @@ pub fn push_operand<'a>(
 {
     match operand_of(names, part) {
         Ok(value) => value.push(text),
-        Err(_) => text.extend_from_slice(part.text.as_slice()),
+        Err(_) => text.extend_from_slice(part.text.bytes()),
     }
 }

@@ -4,45 +4,7 @@ ghost use Rattle.friendly_assembly.specs.Parts.{parts_of, pieces, placed};
 
 use crate::readings::{Reading, Stop, bytes_before};
 use std::alloc::{AllocError, Global};
-use std::marker::Model;
-
-/// A text that is lent, seen as its bytes.
-#[derive(Drop)]
-pub struct Lent<'a> {
-    /// The bytes.
-    bytes: &'a [u8],
-}
-
-impl<'a> Model for Lent<'a> {
-    ghost use Rattle.std.specs.Prelude.{ℕ, List};
-
-    ghost Value = { List ℕ };
-
-    ghost view = { λ t. t.bytes.now };
-}
-
-impl<'a> Lent<'a> {
-    /// These bytes.
-    pub fn new(bytes: &'a [u8]) -> Lent<'a>
-        ensures { result ≡ bytes.now }
-    {
-        Lent { bytes }
-    }
-
-    /// The same bytes, lent once more.
-    pub fn again(&self) -> Lent<'a>
-        ensures { result ≡ self.now }
-    {
-        Lent { bytes: self.bytes }
-    }
-
-    /// The bytes, lent.
-    pub fn as_slice(&self) -> &'a [u8]
-        ensures { result.now ≡ self.now }
-    {
-        self.bytes
-    }
-}
+use tool_texts::Lent;
 
 /// A part of a line.
 #[derive(Drop)]

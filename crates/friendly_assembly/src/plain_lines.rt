@@ -45,7 +45,7 @@ fn is_told(said: &[Part]) -> bool
     ensures { result ≡ is_told said.now }
 {
     match said.split_first() {
-        Some((word, _)) => is_own_word(word.text.as_slice()),
+        Some((word, _)) => is_own_word(word.text.bytes()),
         None => false,
     }
 }
@@ -148,7 +148,7 @@ fn stays<'a>(alloc: Global, names: &Names<'_, 'a>, part: &Part<'a>) -> Result<bo
 {
     let mut text = Vec::new(alloc);
     push_operand(&mut text, names, part)?;
-    Ok(text.as_slice() == part.text.as_slice())
+    Ok(text.as_slice() == part.text.bytes())
 }
 
 // The code of a line: its first label, and what it says.
@@ -165,7 +165,7 @@ fn plain_code<'a>(
     match labels.split_first() {
         None => push_said(&mut text, names, first_column(said), said)?,
         Some((label, others)) => {
-            push_part(&mut text, label.column, label.text.as_slice())?;
+            push_part(&mut text, label.column, label.text.bytes())?;
             push_said(&mut text, names, second_column(others, said), said)?;
         }
     }
@@ -205,7 +205,7 @@ fn push_said<'a>(
     let Some((word, operands)) = said.split_first() else {
         return Ok(());
     };
-    push_part(text, column, word.text.as_slice())?;
+    push_part(text, column, word.text.bytes())?;
     push_operands(text, names, operands)
 }
 

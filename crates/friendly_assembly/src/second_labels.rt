@@ -12,12 +12,12 @@ ghost use Rattle.tool_texts.specs.Reports.{report_of};
 use crate::flaws::{Flaw, Wrong};
 use crate::labels::{name_of, split_labels};
 use crate::names::{ConstantTable, constant_named};
-use crate::parts::{Lent, Part, parts_of};
+use crate::parts::{Part, parts_of};
 use crate::readings::code_length;
 use crate::settings::push_report;
 use std::alloc::{AllocError, Global};
 use std::collections::BTreeMap;
-use tool_texts::Report;
+use tool_texts::{Lent, Report};
 
 /// What is known of labels after some lines.
 #[derive(Drop)]
@@ -90,7 +90,7 @@ fn add_labels<'a>(
         known,
         n,
         line,
-        name_of(first.text.as_slice()),
+        name_of(first.text.bytes()),
         others,
     )
 }
@@ -199,8 +199,8 @@ fn report_constant<'a>(
     ensures { let after = with_constant (kept constants.now) (labels_kept known.old) n line.now label.now in
         OnOk result (labels_kept known.new ≡ after) }
 {
-    let name = Lent::new(name_of(label.text.as_slice()));
-    match constant_named(constants, name.as_slice()) {
+    let name = Lent::new(name_of(label.text.bytes()));
+    match constant_named(constants, name.bytes()) {
         Some(constant) => {
             let wrong = Wrong::LabelIsConstant {
                 name,
@@ -222,7 +222,7 @@ fn report_constant<'a>(
 fn line_of(known: &KeptLabels, label: &Part) -> Option<u64>
     ensures { result ≡ kept known.now.lines (name_of label.now.text) }
 {
-    known.lines.get(name_of(label.text.as_slice())).copied()
+    known.lines.get(name_of(label.text.bytes())).copied()
 }
 
 // A label is on line n.
@@ -230,7 +230,7 @@ fn define<'a>(known: &mut KeptLabels<'a>, n: u64, label: &Part<'a>) -> Result<()
     ensures { let after = with_line (labels_kept known.old) n (name_of label.now.text) in
         OnOk result (labels_kept known.new ≡ after) }
 {
-    put_line(&mut known.lines, name_of(label.text.as_slice()), n)
+    put_line(&mut known.lines, name_of(label.text.bytes()), n)
 }
 
 fn put_line<'a>(
@@ -254,7 +254,7 @@ fn stand_for<'a>(
     ensures { let after = with_first_label (labels_kept known.old) (name_of label.now.text) first.now in
         OnOk result (labels_kept known.new ≡ after) }
 {
-    put_label(&mut known.firsts, name_of(label.text.as_slice()), first)
+    put_label(&mut known.firsts, name_of(label.text.bytes()), first)
 }
 
 fn put_label<'a>(
@@ -282,7 +282,7 @@ fn report_again<'a>(
         OnOk result (labels_kept known.new ≡ after) }
 {
     let wrong = Wrong::DefinedAgain {
-        name: Lent::new(name_of(label.text.as_slice())),
+        name: Lent::new(name_of(label.text.bytes())),
         line: before,
     };
     push_report(

@@ -13,13 +13,13 @@ use crate::flaws::{Flaw, Wrong, push_words};
 use crate::labels::{is_name, split_labels};
 use crate::names::{Constant, ConstantTable, Names, constant_named, set};
 use crate::operands::operand_of;
-use crate::parts::{Lent, Part, parts_of};
+use crate::parts::{Part, parts_of};
 use crate::readings::code_length;
 use crate::strange_bytes::strange_flaw;
 use crate::values::Value;
 use std::alloc::{AllocError, Global};
 use std::collections::BTreeMap;
-use tool_texts::Report;
+use tool_texts::{Lent, Report};
 
 /// A constant that a line sets.
 #[derive(Drop)]
@@ -84,11 +84,7 @@ fn add<'a>(
     match setting {
         Ok(None) => Ok(()),
         Ok(Some(Setting { name, value })) => {
-            set(
-                &mut known.table,
-                name.as_slice(),
-                Constant { value, line: n },
-            )
+            set(&mut known.table, name.bytes(), Constant { value, line: n })
         }
         Err(flaw) => push_report(alloc, &mut known.reports, n, line, flaw),
     }
@@ -146,7 +142,7 @@ fn setting_by<'a>(
     ensures { result ≡ setting_by (kept constants.now) labels.now said.now }
 {
     match said.split_first() {
-        Some((word, operands)) if word.text.as_slice() == b"SET".as_slice() => {
+        Some((word, operands)) if word.text.bytes() == b"SET".as_slice() => {
             set_by(alloc, constants, labels, word, operands)
         }
         _ => Ok(None),
@@ -182,10 +178,10 @@ fn set_named<'a>(
     if let Some(label) = labels.first() {
         return Err(Flaw::new(label.column, Wrong::LabelledSetting));
     }
-    if !is_constant_name(name.text.as_slice()) {
+    if !is_constant_name(name.text.bytes()) {
         return Err(Flaw::new(name.column, Wrong::ConstantName));
     }
-    let before = constant_named(constants, name.text.as_slice());
+    let before = constant_named(constants, name.text.bytes());
     set_new(alloc, constants, name, part, before)
 }
 

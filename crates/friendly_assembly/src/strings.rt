@@ -44,7 +44,7 @@ fn operands_flaw<'a>(word: &Part<'a>, operands: &[Part<'a>]) -> Option<Flaw<'a>>
 fn text_flaw<'a>(word: &Part<'a>, part: &Part<'a>) -> Option<Flaw<'a>>
     ensures { result ≡ text_flaw word.now part.now }
 {
-    match part.text.as_slice().split_first() {
+    match part.text.bytes().split_first() {
         Some((b'"', others)) => string_length_flaw(part, quote_flaw(b'"', part.column, others)),
         _ => Some(Flaw::new(word.column, Wrong::StringForm)),
     }
@@ -56,7 +56,7 @@ fn string_length_flaw<'a>(part: &Part<'a>, wrong: Option<Flaw<'a>>) -> Option<Fl
 {
     match wrong {
         Some(wrong) => Some(wrong),
-        None => length_flaw(part.column, code_count(quoted(part.text.as_slice()))),
+        None => length_flaw(part.column, code_count(quoted(part.text.bytes()))),
     }
 }
 
@@ -86,8 +86,8 @@ fn push_said(text: &mut Vec<u8>, labels: &[Part], said: &[Part]) -> Result<(), A
         ≡ text.old.items ++ string_lines_by labels.now said.now) }
 {
     match (labels, said) {
-        ([label, ..], [word, part]) if word.text.as_slice() == b"DS".as_slice() => {
-            push_lines(text, label.text.as_slice(), quoted(part.text.as_slice()))
+        ([label, ..], [word, part]) if word.text.bytes() == b"DS".as_slice() => {
+            push_lines(text, label.text.bytes(), quoted(part.text.bytes()))
         }
         _ => Ok(()),
     }

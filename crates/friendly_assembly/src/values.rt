@@ -4,10 +4,9 @@ ghost use Rattle.friendly_assembly.specs.Operands.{digits_text, signed, value, v
 ghost use Rattle.friendly_assembly.specs.Settings.{is_number};
 
 use crate::numbers::are_decimal_digits;
-use crate::parts::Lent;
 use std::alloc::AllocError;
 use tool_texts::Said::{Bytes, Number};
-use tool_texts::push_sentence;
+use tool_texts::{Lent, push_sentence};
 
 /// What a value has after its sign.
 #[derive(Drop)]
@@ -64,7 +63,7 @@ impl<'a> Value<'a> {
         match &self.digits {
             Digits::Number(_) => true,
             Digits::Text(text) => {
-                are_decimal_digits(text.as_slice(), if self.minus { 10 } else { 11 })
+                are_decimal_digits(text.bytes(), if self.minus { 10 } else { 11 })
             }
         }
     }
@@ -92,6 +91,6 @@ fn push_digits(text: &mut Vec<u8>, digits: &Digits) -> Result<(), AllocError>
 {
     match digits {
         Digits::Number(n) => push_sentence(text, &[Number(*n as u64)]),
-        Digits::Text(bytes) => push_sentence(text, &[Bytes(bytes.as_slice())]),
+        Digits::Text(bytes) => push_sentence(text, &[Bytes(bytes.bytes())]),
     }
 }

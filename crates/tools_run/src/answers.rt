@@ -41,7 +41,7 @@ fn answer_by_tool<K: Sink>(alloc: Global, asked: &Asked, text: &[u8], out: &mut 
     ensures ends { IsTextEnd result }
     ensures cause { HasFaultCause Status.WriteFault (K.faults out.old) (K.faults out.new) result }
 {
-    match tell(alloc, asked.tool, asked.name.as_slice(), text) {
+    match tell(alloc, asked.tool, asked.name.bytes(), text) {
         Ok(told) => write_told(&told, out),
         Err(AllocError) => Status::WantMemory,
     }

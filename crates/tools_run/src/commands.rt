@@ -2,7 +2,7 @@
 ghost use Rattle.std.specs.Prelude.{◌≡◌, map, string_bytes};
 ghost use Rattle.tools_run.specs.Words.{asked_of, asked_with_name, tool_named};
 
-use friendly_assembly::parts::Lent;
+use tool_texts::Lent;
 
 /// A tool.
 #[derive(Clone, Copy)]
