@@ -1,6 +1,6 @@
 # The values of a lab's marks, for bin/grade: value(TEXT) is that of an expression in + - * / % ( ), of the names of let lines, n and
 # handed, and filled(TEXT) has the values in the place of its {EXPRESSION}s, and the characters with these codes in that of its
-# {c EXPRESSION}s.
+# {c EXPRESSION}s. In a pattern numbers alone in braces, as {2} and {2,3}, are how often something comes, and stay.
 function bad(says) { if (!stopped) print where ": " says > "/dev/stderr"; stopped = 1; exit 2 }
 function blank() { while (substr(rest, 1, 1) == " ") rest = substr(rest, 2) }
 function factor(    found) {
@@ -51,14 +51,15 @@ function value(text,    found) {
     if (rest != "") bad("no expression: " text)
     return sprintf("%.0f", found)
 }
-function filled(text,    done, at) {
+function filled(text, is_pattern,    done, at) {
     done = ""
     while ((at = index(text, "{")) > 0) {
         done = done substr(text, 1, at - 1)
         text = substr(text, at + 1)
         at = index(text, "}")
         if (!at) bad("a } is missing")
-        if (text ~ /^c /) done = done sprintf("%c", value(substr(text, 3, at - 3)) + 0)
+        if (is_pattern && substr(text, 1, at - 1) ~ /^[0-9]+(,[0-9]*)?$/) done = done "{" substr(text, 1, at)
+        else if (text ~ /^c /) done = done sprintf("%c", value(substr(text, 3, at - 3)) + 0)
         else done = done value(substr(text, 1, at - 1))
         text = substr(text, at + 1)
     }

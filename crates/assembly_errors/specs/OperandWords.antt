@@ -1,5 +1,5 @@
 -- What is said of a name and its operands, where a line has none of the forms. What a definition gives where nothing is wrong is never said.
-use Rattle.std.specs.Prelude.{ℕ, ◌+◌, ◌-◌, ◌&&◌, Bool, true, false, not, if◌then◌else◌, List, [], ◌∷◌, ◌++◌, codes, is_some, Option, Some, None}
+use Rattle.std.specs.Prelude.{ℕ, ◌&&◌, Bool, true, false, not, if◌then◌else◌, List, [], ◌∷◌, ◌++◌, codes, is_some, Option, Some, None}
 use Rattle.byte_streams.specs.Pieces.{joined}
 use Rattle.assembly.specs.AssemblyText.Names.{has_name_form, label_of}
 use Rattle.assembly_errors.specs.Hints.{name_hint, name_hint_text}
