@@ -28,6 +28,14 @@ export async function errors_in(file) {
   return (errors ?? await plain_errors(plain)).slice(0, MOST_ERRORS);
 }
 
+/** What is strange in a program in which nothing is wrong, up to ten lines. */
+export async function notes_in(file) {
+  const { plain } = await plain_text(file);
+  if (plain === undefined) return [];
+  const given = await ask('tripos_tools', ['asm-notes'], plain, 'what is strange is looked for');
+  return told_errors(given.text, plain.split('\n')).slice(0, MOST_ERRORS);
+}
+
 async function plain_errors(plain) {
   const given = await ask('tripos_tools', ['asm-errors'], plain, 'the lines in error are looked for');
   return told_errors(given.text, plain.split('\n'));

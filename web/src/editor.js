@@ -100,11 +100,9 @@ export function make_editor(name, text, { on_text, on_break, on_caret }) {
   };
 }
 
-/** The lines in error under an editor, each a button that goes there. */
-export function error_strip(errors, go_to) {
-  return errors.map((it) => button('', () => go_to(it.line), { class: 'error-line', 'data-line': String(it.line) }))
-    .map((node, at) => {
-      const { line, shown } = errors[at];
-      return fill(node, make('strong', {}, `! Line ${line}: `), words_of_error(errors[at]), shown ? make('code', {}, shown) : null);
-    });
+/** The lines in error under an editor, and those in which something is strange, each a button that goes there. */
+export function line_strip(errors, notes, go_to) {
+  const told = (look, before) => (it) => fill(button('', () => go_to(it.line), { class: look, 'data-line': String(it.line) }),
+    make('strong', {}, `${before} ${it.line}: `), words_of_error(it), it.shown ? make('code', {}, it.shown) : null);
+  return [...errors.map(told('error-line', '! Line')), ...notes.map(told('note-line', 'Strange in line'))];
 }

@@ -1,6 +1,6 @@
 // The view Programs: the files, the machine, its session, and the console.
 import { ask_for_text, ask_user } from './dialogs.js';
-import { error_strip, make_editor } from './editor.js';
+import { line_strip, make_editor } from './editor.js';
 import { button, fill, make } from './elements.js';
 import { files } from './files.js';
 import { help_for_line } from './instructions.js';
@@ -125,8 +125,9 @@ function editor_card() {
     const errors = state.errors.get(state.open) ?? [];
     const breaks = state.breaks.filter((it) => it.file === state.open).map((it) => it.line);
     if (file_named(state.open)) editor_for(state.open).mark({ errors, breaks });
-    fill(strip, error_strip(errors, (line) => editor_for(state.open).go_to(line)));
-    strip.hidden = errors.length === 0;
+    const notes = state.notes.get(state.open) ?? [];
+    fill(strip, line_strip(errors, notes, (line) => editor_for(state.open).go_to(line)));
+    strip.hidden = errors.length + notes.length === 0;
   }
 
   watch(['shape'], () => {
@@ -137,7 +138,7 @@ function editor_card() {
     show_open();
   });
   watch(['open'], () => { show_tabs(); show_open(); });
-  watch(['errors'], () => { show_tabs(); show_marks(); });
+  watch(['errors', 'notes'], () => { show_tabs(); show_marks(); });
   watch(['breaks'], show_marks);
   show_tabs();
   show_open();

@@ -18,6 +18,8 @@ export const state = {
   side: 'machine',
   /** the lines in error of each file: a Map from names to lists */
   errors: new Map(),
+  /** the lines in which something is strange, likewise */
+  notes: new Map(),
   /** what the form makes: see session.js */
   made: null,
   /** which command runs the session: run, dump or trace */

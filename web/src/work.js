@@ -1,5 +1,5 @@
 // What has to be made anew when the user's work changes: the session, the errors of the files, the address, and what the browser keeps.
-import { errors_in } from './assemble.js';
+import { errors_in, notes_in } from './assemble.js';
 import { newest } from './asking.js';
 import { after_pause } from './elements.js';
 import { is_assembly } from './project.js';
@@ -14,17 +14,22 @@ async function make_anew() {
   try {
     const made = await only_newest_session(() => session_of(project));
     if (made && project === state.project) change({ made: { ...made, project } });
-    const errors = await only_newest_errors(() => errors_of(project));
-    if (errors && project === state.project) change({ errors });
+    const found = await only_newest_errors(() => errors_and_notes_of(project));
+    if (found && project === state.project) change(found);
   } catch (error) {
     change({ notice: error.message });
   }
 }
 
-async function errors_of(project) {
+// The lines in error of each program, and of one in which nothing is wrong those in which something is strange.
+async function errors_and_notes_of(project) {
   const errors = new Map();
-  for (const file of project.files) if (is_assembly(file.name)) errors.set(file.name, await errors_in(file));
-  return errors;
+  const notes = new Map();
+  for (const file of project.files.filter(({ name }) => is_assembly(name))) {
+    errors.set(file.name, await errors_in(file));
+    if (errors.get(file.name).length === 0) notes.set(file.name, await notes_in(file));
+  }
+  return { errors, notes };
 }
 
 /** What is run now, as a Promise of its text; where there is none, null, and the form says why. */

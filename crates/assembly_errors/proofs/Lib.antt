@@ -2,5 +2,5 @@ mod DraftedLines
 mod FirstErrors
 mod FollowedLeads
 mod LikeNames
-mod ToolAnswers
+pub mod ToolAnswers
 mod WiderNames

@@ -4,13 +4,14 @@ use Rattle.std.specs.Option.{option_map}
 use Rattle.std.specs.Str.{bytes_eq}
 use Rattle.tools_run.specs.declared.commands.Asked.{Asked}
 use Rattle.tools_run.specs.declared.commands.Tool.{Tool}
-use Rattle.tools_run.specs.declared.commands.Tool.TheVariants.{Asm, AsmErrors}
+use Rattle.tools_run.specs.declared.commands.Tool.TheVariants.{Asm, AsmErrors, AsmNotes}
 
 -- the tool that a word is, if it is one
 abbrev pub tool_named : List ℕ → Option Tool
 tool_named word =
     if bytes_eq word (codes "asm") then Some Asm else
     if bytes_eq word (codes "asm-errors") then Some AsmErrors else
+    if bytes_eq word (codes "asm-notes") then Some AsmNotes else
     None
 
 -- a tool, with a name of its input
@@ -25,4 +26,4 @@ asked_of _ = None
 
 -- what is said where the words ask for nothing
 abbrev pub usage_text : List ℕ
-usage_text = codes "* usage: tripos_tools asm or asm NAME, asm-errors or asm-errors NAME\n"
+usage_text = codes "* usage: tripos_tools asm or asm NAME, asm-errors or asm-errors NAME, asm-notes or asm-notes NAME\n"

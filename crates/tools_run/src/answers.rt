@@ -9,6 +9,7 @@ ghost use Rattle.tools_run.specs.ToolAnswers.{IsToolAnswer, told, told_answer};
 
 use crate::commands::{Asked, Tool};
 use assembly_errors::assembly_errors;
+use assembly_notes::assembly_notes;
 use byte_streams::{Sink, write_text};
 use friendly_assembly::friendly_text;
 use program_answers::{Status, TextAnswers, status_after};
@@ -55,6 +56,7 @@ fn tell(alloc: Global, tool: Tool, name: &[u8], text: &[u8]) -> Result<ToolText,
     match tool {
         Tool::Asm => friendly_text(alloc, name, text),
         Tool::AsmErrors => assembly_errors(alloc, name, text),
+        Tool::AsmNotes => assembly_notes(alloc, name, text),
     }
 }
 

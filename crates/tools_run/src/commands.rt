@@ -11,6 +11,8 @@ pub enum Tool {
     Asm,
     /// What is wrong in an assembly text, in words.
     AsmErrors,
+    /// What is strange in an assembly text that is taken, in words.
+    AsmNotes,
 }
 
 /// What is asked for: a tool, and how its input is called.
@@ -51,6 +53,7 @@ fn tool_named(word: &str) -> Option<Tool>
     match word {
         "asm" => Some(Tool::Asm),
         "asm-errors" => Some(Tool::AsmErrors),
+        "asm-notes" => Some(Tool::AsmNotes),
         _ => None,
     }
 }

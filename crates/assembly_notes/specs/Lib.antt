@@ -1,0 +1,5 @@
+pub mod Flows
+pub mod Lines
+pub mod NamedTexts
+pub mod Notes
+pub mod WordLabels
