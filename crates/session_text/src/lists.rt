@@ -7,7 +7,7 @@ use crate::{LineForm, SessionLine};
 use arrayvec::ArrayVec;
 use module_text::TextEnd;
 use ram_disc::Name;
-use std::alloc::AllocFailed;
+use std::alloc::{AllocFailed, Global};
 use std::marker::Model;
 
 /// Bytes, seen as their list.
@@ -202,11 +202,11 @@ impl Keys {
     }
 }
 
-/// At most eight names of files, seen as their list.
+/// At most eight names of files, seen as their list. They are apart, so that they take no room in the lines that have none.
 #[derive(Drop)]
 pub struct Names {
     /// The names, in the order of the text.
-    list: ArrayVec<Name, 8>,
+    list: Box<ArrayVec<Name, 8>>,
 }
 
 impl Model for Names {
@@ -214,15 +214,17 @@ impl Model for Names {
 
     ghost Value = { List (List ℕ) };
 
-    ghost view = { λ n. n.list.items };
+    ghost view = { λ n. n.list.value.items };
 }
 
 impl Names {
-    /// These names.
-    pub fn new(names: ArrayVec<Name, 8>) -> Names
-        ensures { result ≡ names.items }
+    /// These names. `WantMemory` comes only where memory could not be had.
+    pub fn new(alloc: Global, names: ArrayVec<Name, 8>) -> Result<Names, TextEnd>
+        ensures { Gives (λ n. n) result (Ok names.items) }
     {
-        Names { list: names }
+        Ok(Names {
+            list: Box::new(alloc, names)?,
+        })
     }
 
     /// The names, lent.
