@@ -293,6 +293,7 @@ impl Draft {
         if !is_step(step) {
             return Err(TextEnd::Bad { line: n, code: 2 });
         }
+        let step = step as u32;
         self.session.keys.add_text(step, text)?;
         self.session.keys.push(step, b'\n')?;
         self.place = Place::Entry;
@@ -305,7 +306,7 @@ impl Draft {
         if !is_step(step) {
             return Err(TextEnd::Bad { line: n, code: 2 });
         }
-        self.session.keys.push(step, byte)?;
+        self.session.keys.push(step as u32, byte)?;
         self.place = Place::Entry;
         Ok(())
     }
