@@ -370,7 +370,7 @@ impl Draft {
         if !is_step(step) {
             return Err(TextEnd::Bad { line: n, code: 2 });
         }
-        self.image.keys.push(step, byte)?;
+        self.image.keys.push(step as u32, byte)?;
         self.place = Place::Key;
         Ok(())
     }

@@ -11,7 +11,7 @@ use crate::ranges::{
     is_period, is_priority, is_stack, is_step, is_store_size, is_task, name_of, names_of,
 };
 use crate::statements::{Statement, statement_of};
-use crate::{Bytes, Keys, LineForm, Lines, Session, SessionLine};
+use crate::{Bytes, Keys, LineForm, Lines, Names, Session, SessionLine};
 use hex::FromHexError;
 use module_text::{TextEnd, after_word, number_after};
 use std::alloc::Global;
@@ -236,7 +236,7 @@ impl Draft {
                 pri,
                 stack,
                 names,
-            } => self.add_task(n, id, pri, stack, names),
+            } => self.add_task(alloc, n, id, pri, stack, names),
             Statement::At { step, text } => self.add_typed(n, step, text),
             Statement::Key { step, byte } => self.add_key(n, step, byte),
             Statement::Go(steps) => self.add_steps(n, steps),
@@ -258,6 +258,7 @@ impl Draft {
 
     fn add_task(
         &mut self,
+        alloc: Global,
         n: u32,
         id: u64,
         pri: u64,
@@ -278,7 +279,7 @@ impl Draft {
             id: id as u32,
             pri: pri as u32,
             stack: stack as u32,
-            names,
+            names: Names::new(alloc, names)?,
         };
         self.session.lines.push(SessionLine { line: n, form })?;
         self.place = Place::Entry;
@@ -292,6 +293,7 @@ impl Draft {
         if !is_step(step) {
             return Err(TextEnd::Bad { line: n, code: 2 });
         }
+        let step = step as u32;
         self.session.keys.add_text(step, text)?;
         self.session.keys.push(step, b'\n')?;
         self.place = Place::Entry;
@@ -304,7 +306,7 @@ impl Draft {
         if !is_step(step) {
             return Err(TextEnd::Bad { line: n, code: 2 });
         }
-        self.session.keys.push(step, byte)?;
+        self.session.keys.push(step as u32, byte)?;
         self.place = Place::Entry;
         Ok(())
     }

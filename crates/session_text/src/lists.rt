@@ -7,7 +7,7 @@ use crate::{LineForm, SessionLine};
 use arrayvec::ArrayVec;
 use module_text::TextEnd;
 use ram_disc::Name;
-use std::alloc::AllocFailed;
+use std::alloc::{AllocFailed, Global};
 use std::marker::Model;
 
 /// Bytes, seen as their list.
@@ -150,7 +150,7 @@ fn form_with_text(form: LineForm, text: &[u8]) -> Result<LineForm, TextEnd>
 #[derive(Drop)]
 pub struct Keys {
     /// The step and the byte of each key, in the order of the text.
-    list: Vec<(u64, u8)>,
+    list: Vec<(u32, u8)>,
 }
 
 impl Model for Keys {
@@ -163,14 +163,14 @@ impl Model for Keys {
 
 impl Keys {
     /// These keys.
-    pub fn new(keys: Vec<(u64, u8)>) -> Keys
+    pub fn new(keys: Vec<(u32, u8)>) -> Keys
         ensures { result ≡ keys.items }
     {
         Keys { list: keys }
     }
 
     /// Adds a key at the end.
-    pub fn push(&mut self, step: u64, byte: u8) -> Result<(), AllocFailed<(u64, u8)>>
+    pub fn push(&mut self, step: u32, byte: u8) -> Result<(), AllocFailed<(u32, u8)>>
         ensures ok { OnOk result (self.new ≡ self.old ++ (step, byte) ∷ []) }
         ensures err { OnErr result (self.new ≡ self.old) }
     {
@@ -178,7 +178,7 @@ impl Keys {
     }
 
     /// Adds the bytes of a text at the end, as keys that are due at one step.
-    pub fn add_text(&mut self, step: u64, text: &[u8]) -> Result<(), TextEnd>
+    pub fn add_text(&mut self, step: u32, text: &[u8]) -> Result<(), TextEnd>
         ensures { Gives (λ _. self.new) result (Ok (self.old ++ map (λ c. (step, c)) text.now)) }
     {
         for byte in text {
@@ -188,25 +188,25 @@ impl Keys {
     }
 
     /// The keys, lent.
-    pub fn as_slice(&self) -> &[(u64, u8)]
+    pub fn as_slice(&self) -> &[(u32, u8)]
         ensures { result.now ≡ self.now }
     {
         self.list.as_slice()
     }
 
     /// The keys, without taking memory.
-    pub fn into_vec(self) -> Vec<(u64, u8)>
+    pub fn into_vec(self) -> Vec<(u32, u8)>
         ensures { result.items ≡ self }
     {
         self.list
     }
 }
 
-/// At most eight names of files, seen as their list.
+/// At most eight names of files, seen as their list. They are apart, so that they take no room in the lines that have none.
 #[derive(Drop)]
 pub struct Names {
     /// The names, in the order of the text.
-    list: ArrayVec<Name, 8>,
+    list: Box<ArrayVec<Name, 8>>,
 }
 
 impl Model for Names {
@@ -214,15 +214,17 @@ impl Model for Names {
 
     ghost Value = { List (List ℕ) };
 
-    ghost view = { λ n. n.list.items };
+    ghost view = { λ n. n.list.value.items };
 }
 
 impl Names {
-    /// These names.
-    pub fn new(names: ArrayVec<Name, 8>) -> Names
-        ensures { result ≡ names.items }
+    /// These names. `WantMemory` comes only where memory could not be had.
+    pub fn new(alloc: Global, names: ArrayVec<Name, 8>) -> Result<Names, TextEnd>
+        ensures { Gives (λ n. n) result (Ok names.items) }
     {
-        Names { list: names }
+        Ok(Names {
+            list: Box::new(alloc, names)?,
+        })
     }
 
     /// The names, lent.

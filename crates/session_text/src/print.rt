@@ -212,7 +212,7 @@ fn print_names<K: Sink>(names: &[Name], out: &mut K) -> Result<(), SinkFault>
 }
 
 // Writes a line for each key.
-fn print_keys<K: Sink>(keys: &[(u64, u8)], out: &mut K) -> Result<(), SinkFault>
+fn print_keys<K: Sink>(keys: &[(u32, u8)], out: &mut K) -> Result<(), SinkFault>
     ensures text { let text = text_of_lines (keys_text keys.now) in
         PrintsTo K.Sink out.old out.new text result }
     ensures cause { FailsBySink K.Sink out.old out.new result }
@@ -223,7 +223,7 @@ fn print_keys<K: Sink>(keys: &[(u64, u8)], out: &mut K) -> Result<(), SinkFault>
     Ok(())
 }
 
-fn print_key<K: Sink>(step: u64, byte: u8, out: &mut K) -> Result<(), SinkFault>
+fn print_key<K: Sink>(step: u32, byte: u8, out: &mut K) -> Result<(), SinkFault>
     ensures text { let text = text_of_lines (statement_text (Key step byte) ∷ []) in
         PrintsTo K.Sink out.old out.new text result }
     ensures cause { FailsBySink K.Sink out.old out.new result }
@@ -232,7 +232,7 @@ fn print_key<K: Sink>(step: u64, byte: u8, out: &mut K) -> Result<(), SinkFault>
         out,
         &[
             Piece::Text(b"KEY "),
-            Piece::Decimal(step),
+            Piece::Decimal(u64::from(step)),
             Piece::Text(b" "),
             Piece::Text(&hex_digits(byte)),
             Piece::Text(b"\n"),

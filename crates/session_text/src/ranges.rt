@@ -1,12 +1,11 @@
 // The ranges of the numbers and names of a session.
-ghost use Rattle.std.specs.Prelude.{◌≡◌, ◌≤◌, Some, None, if◌then◌else◌, length};
+ghost use Rattle.std.specs.Prelude.{◌≡◌, ◌≤◌, Some, None, if◌then◌else◌, length, option_map};
 ghost use Rattle.std.specs.List.{list_all};
 ghost use Rattle.ram_disc.specs.Name.{is_name};
 ghost use Rattle.kernel_model.specs.KernelRecord.Ranges.{is_period, is_store_size};
 ghost use Rattle.session_text.specs.Ranges.{is_priority, is_stack, is_step, is_task};
 ghost use Rattle.session_text.specs.Statements.{fields};
 
-use crate::Names;
 use crate::fields::split_at_blank;
 use arrayvec::ArrayVec;
 use ram_disc::Name;
@@ -62,10 +61,10 @@ pub fn name_of(bytes: &[u8]) -> Option<Name>
 }
 
 /// The names between blanks; `None` exactly where one of them is no name.
-pub fn names_of(text: &[u8]) -> Option<Names>
+pub fn names_of(text: &[u8]) -> Option<ArrayVec<Name, 8>>
     requires { length (fields text.now) ≤ 8 }
     ensures { let parts = fields text.now in
-        result ≡ (if list_all is_name parts then Some parts else None) }
+        option_map (λ names. names.items) result ≡ (if list_all is_name parts then Some parts else None) }
 {
     let mut names = ArrayVec::new();
     let mut rest = text;
@@ -74,5 +73,5 @@ pub fn names_of(text: &[u8]) -> Option<Names>
         rest = others;
     }
     names.push(name_of(rest)?);
-    Some(Names::new(names))
+    Some(names)
 }

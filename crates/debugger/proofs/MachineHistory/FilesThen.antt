@@ -5,7 +5,7 @@ use Rattle.std.proofs.lemmas.Bool.{le-leb, lt-leb, lt-ltb, le-ltb}
 use Rattle.std.proofs.lemmas.List.{length-take}
 use Rattle.circular_buffer.specs.Buffer.{last_item}
 use Rattle.debugger.proofs.UndoJournal.RingLemmas.{last_item-push, take-push}
-use Rattle.debugger.specs.MachineHistory.FilesBefore.{files_at, files_from, files_in, forgotten, front_from_last, gone_back, to_front}
+use Rattle.debugger.specs.MachineHistory.FilesBefore.{files_at, files_from, files_in, forgotten, front_from_last, gone_back, is_later, to_front}
 use Rattle.debugger.specs.declared.machine_history.files.KeptFiles.{KeptFiles}
 
 abbrev pub Until : ℕ → List KeptFiles → Type 0
@@ -93,6 +93,12 @@ back-none : (most n : ℕ) (fs : List KeptFiles) (f : KeptFiles) → f.since ≤
 unfolding gone_back
 back-none zero n fs f h = refl
 back-none (suc most) n fs f h = ap (gone_back most n) (front-none n fs f h) ∙ back-none most n fs f h
+
+-- none goes where the last had come to be
+pub back-same : (most n : ℕ) (fs : List KeptFiles) → is_later n (last_item fs) ≡ false → gone_back most n fs ≡ fs
+unfolding gone_back
+back-same zero n fs early = refl
+back-same (suc most) n fs early = ap (gone_back most n) (ap (λ b. cond b (to_front (last_item fs) fs) fs) early) ∙ back-same most n fs early
 
 -- once more, in front of what may follow
 pub back-once : (most n : ℕ) (fs : List KeptFiles) → gone_back (suc most) n fs ≡ gone_back most n (front_from_last n (last_item fs) fs)

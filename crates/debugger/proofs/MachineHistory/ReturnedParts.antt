@@ -15,8 +15,8 @@ use Rattle.tripos_machine.specs.declared.parts.Parts.{Parts}
 use Rattle.tripos_machine.specs.declared.parts.Parts.TheVariants.{Bare as BareMachine, Full as FullMachine}
 use Rattle.kernel_model.proofs.KernelRecord.ImageWords.{image-list}
 use Rattle.tripos_machine.specs.State.State.{Bare, Full}
-use Rattle.debugger.specs.MachineHistory.FilesBefore.{files_at, gone_back}
-use Rattle.debugger.specs.MachineHistory.Histories.{HasCome, HasFiles, IsFull, IsHistory, IsMember, at_moment, bare_parts_back, files_back, journal_back, last_files, latest, moment_back, parts_back, ring_of, view_of, with_files_of}
+use Rattle.debugger.specs.MachineHistory.FilesBefore.{files_at, files_in, gone_back}
+use Rattle.debugger.specs.MachineHistory.Histories.{AreInOrder, HasCome, HasFiles, HasLastFiles, IsFull, IsHistory, IsMember, at_moment, bare_parts_back, files_back, journal_back, last_files, latest, moment_back, parts_back, ring_of, view_of, with_files_of}
 use Rattle.debugger.specs.MachineHistory.Moments.{kernel_in, number, read, state_in, states}
 use Rattle.debugger.specs.MachineHistory.Pasts.{Files, HistoryView, Now, files_of, now_of, past_back, state_back}
 use Rattle.debugger.specs.declared.machine_history.files.KeptFiles.{KeptFiles}
@@ -159,6 +159,20 @@ full-step : (all : List (ℕ × ℕ)) (words : List ℕ) (f : Files) (m : Moment
 full-step all words f (BareKind m) b p full = absurd full
 full-step all words f (FullKind m) b p full = files-step (last_files (gone_back 17 m.step b.items)) (at_moment (Some (FullKind m)) words p)
 
+some-files : (f g : Files) → Some f ≡ Some g → f ≡ g
+some-files f g is = cc
+
+-- the files that were kept last are those that the machine has
+has-last-files : (o : Option (Buffer KeptFiles)) (n : ℕ) (ss : List State) (p : KernelParts) (now : State) → RepresentsState (FullMachine p) now → latest n o ≡ files_of now → HasFiles o n ss → AreInOrder n ss
+    → HasLastFiles o p
+has-last-files None n ss p now st files has order = tt
+has-last-files (Some b) n ss p (Bare m) st files has order = absurd st
+has-last-files (Some b) n ss p (Full k) st files has order =
+    let l = is-latest n b.items (omega (arith, has.places)) (files-until b n ss has order) in
+    let these : files_in l.files ≡ record { disc = k.disc; pipes = k.pipes } = sym l.is ∙ some-files (files_at n b.items) (record { disc = k.disc; pipes = k.pipes }) files in
+    ap (λ o. with_files_of o p) l.last
+    ∙ (λ i. record p { disc = (ap (λ (f : Files). f.disc) these ∙ sym st.disc) i; pipes = (ap (λ (f : Files). f.pipes) these ∙ sym st.pipes) i })
+
 store-words : (p : KernelParts) (now : State) → RepresentsState (FullMachine p) now → p.store ≡ words_of now
 store-words p (Bare m) st = absurd st
 store-words p (Full k) st = image-list p.store k st.image
@@ -255,6 +269,9 @@ module _ (h : Inside) (k : IsHistory h) (n : ℕ) (some : 0 < n) (few : n ≤ le
 
     pub walk-before : CanWalkLists (journal_back n h.journal).words
     walk-before = subst CanWalkLists (sym (words-are h k n some few now)) (full-walks h.keys.items words stood side (member-of h k n some few now).holds (member-of h k n some few now).sound full)
+
+    pub last-before : HasLastFiles h.files p
+    last-before = has-last-files h.files h.steps (states h.keys.items (ring_of h.files) h.journal.past) p now st (ap (λ (x : Now). x.files) seen) k.files k.order
 
     pub come-before : HasCome (moment_back n h.journal) p
     come-before = subst (λ o. HasCome o p) (sym (moment-is h k n some few now)) (full-come h.keys.items words stood side (member-of h k n some few now).holds (member-of h k n some few now).sound full p same-keys)

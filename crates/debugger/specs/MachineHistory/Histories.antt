@@ -160,6 +160,11 @@ abbrev pub HasPlaces : Option (Buffer KeptFiles) → Type 0
 HasPlaces None = Unit {0}
 HasPlaces (Some b) = (0 < length b.items) × (length b.items ≤ b.capacity)
 
+-- the parts have the files that were kept last, if any are
+abbrev pub HasLastFiles : Option (Buffer KeptFiles) → Parts → Type 0
+HasLastFiles None p = Unit {0}
+HasLastFiles (Some b) p = with_files_of (last_files b.items) p ≡ p
+
 -- so many keys had come at the moment as the machine has, at most
 abbrev pub HasCome : Option Moment → Parts → Type 0
 HasCome (Some (FullKind m)) p = m.come ≤ length p.keys.keys

@@ -114,8 +114,8 @@ fn forget_last(ring: &mut HeapCircularBuffer<KeptFiles>, n: u64)
     }
 }
 
-// Whether the last came to be after n steps.
-fn is_later(ring: &HeapCircularBuffer<KeptFiles>, n: u64) -> bool
+/// Whether the last came to be after n steps.
+pub(crate) fn is_later(ring: &HeapCircularBuffer<KeptFiles>, n: u64) -> bool
     ensures { result ≡ is_later n (last_item ring.now.items) }
 {
     match ring.back() {

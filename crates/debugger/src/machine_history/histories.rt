@@ -33,7 +33,7 @@ pub struct History {
     /// The steps that the machine has taken now.
     steps: u64,
     /// All keys of the machine, of which it is kept how many had come at each moment.
-    keys: Vec<(u64, u8)>,
+    keys: Vec<(u32, u8)>,
 }
 
 // Written out, so that it is a call: where it is derived, the proof of each function that drops one goes through all its parts.
@@ -134,7 +134,7 @@ impl History {
 }
 
 // A copy of all keys of a machine; one without a kernel has none.
-fn keys_of(alloc: Global, machine: &Machine) -> Result<Vec<(u64, u8)>, WantMemory>
+fn keys_of(alloc: Global, machine: &Machine) -> Result<Vec<(u32, u8)>, WantMemory>
     ensures { IfOk result (λ keys. keys.items ≡ machine.now.keys) }
 {
     let keys = match machine.kernel_parts() {

@@ -4,9 +4,11 @@ ghost use Rattle.kernel_model.specs.KernelRecord.KernelRanges.{CanWalkLists};
 ghost use Rattle.kernel_model.specs.KernelRecord.Lists.{Lists};
 ghost use Rattle.kernel_model.specs.WordKinds.ByteMap.{MarksAll};
 ghost use Rattle.kernel_model.specs.WordKinds.Keeper.{IsStoreOf};
-ghost use Rattle.debugger.specs.MachineHistory.Histories.{HasCome, HasPlaces, bare_parts_back, files_back, journal_back, last_files, moment_back, parts_back, with_files_of};
+ghost use Rattle.circular_buffer.specs.Buffer.{buffer};
+ghost use Rattle.debugger.specs.MachineHistory.FilesBefore.{gone_back};
+ghost use Rattle.debugger.specs.MachineHistory.Histories.{HasCome, HasLastFiles, HasPlaces, bare_parts_back, files_back, journal_back, last_files, moment_back, parts_back, with_files_of};
 
-use crate::machine_history::files::{KeptFiles, go_back};
+use crate::machine_history::files::{KeptFiles, go_back, is_later};
 use crate::machine_history::moments::Moment;
 use crate::undo_journal::Journal;
 use bare_machine::BareParts;
@@ -37,6 +39,7 @@ pub(crate) fn full_back(
     requires words { parts.old.store ≡ journal.old.words }
     requires few { n ≤ length journal.old.past }
     requires places { HasPlaces files.old }
+    requires last { HasLastFiles files.old parts.old }
     requires walk { CanWalkLists (journal_back n journal.old).words }
     requires come { HasCome (moment_back n journal.old) parts.old }
     ensures journal { journal.new ≡ journal_back n journal.old }
@@ -51,7 +54,6 @@ pub(crate) fn full_back(
         moment.restore(parts);
     }
     if let Some(ring) = files {
-        go_back(ring, parts.step);
         restore_files(ring, parts);
     }
     parts.kinds.rebuild(&parts.store);
@@ -72,8 +74,23 @@ fn undo(journal: &mut Journal<Moment>, n: u32, store: &mut Store) -> Option<Mome
     last
 }
 
+// Forgets the files that came to be after the machine's steps, and gives it the last of those that are left. Where none are forgotten it
+// has these already, and nothing is copied.
+fn restore_files(ring: &mut HeapCircularBuffer<KeptFiles>, parts: &mut KernelParts)
+    requires places { length ring.old.items ≤ ring.old.capacity }
+    requires last { with_files_of (last_files ring.old.items) parts.old ≡ parts.old }
+    ensures files { ring.new ≡ buffer (gone_back 17 parts.old.step ring.old.items) ring.old.capacity }
+    ensures parts { parts.new ≡ with_files_of (last_files ring.new.items) parts.old }
+{
+    if !is_later(ring, parts.step) {
+        return;
+    }
+    go_back(ring, parts.step);
+    copy_files(ring, parts);
+}
+
 // Gives a machine the last of the files that are kept.
-fn restore_files(ring: &HeapCircularBuffer<KeptFiles>, parts: &mut KernelParts)
+fn copy_files(ring: &HeapCircularBuffer<KeptFiles>, parts: &mut KernelParts)
     ensures { parts.new ≡ with_files_of (last_files ring.now.items) parts.old }
 {
     if let Some(files) = ring.back() {

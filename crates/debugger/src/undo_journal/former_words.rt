@@ -9,7 +9,10 @@ ghost use Rattle.debugger.specs.UndoJournal.Private.Rings.{ring_with};
 use circular_buffer::HeapCircularBuffer;
 use word_store::{Store, word};
 
-/// So many words are compared at once.
+/// So many words are compared at once,
+const AREA: u32 = 512;
+
+/// and so many in an area in which some differ.
 const BLOCK: u32 = 64;
 
 /// A word, and where it stood.
@@ -45,7 +48,7 @@ pub(crate) fn note_word(
     1
 }
 
-/// The same at all addresses. Blocks of words that are the same are passed over.
+/// The same at all addresses. Areas of words that are the same are passed over.
 pub(crate) fn note_all_words(
     latest: &mut Store,
     store: &Store,
@@ -60,15 +63,66 @@ pub(crate) fn note_all_words(
     ensures count { result ≡ length (former_words latest.old store.now (addresses_of store.now)) }
     ensures most { result < 2 ^ 32 }
 {
-    let blocks = store.size() / BLOCK;
+    let areas = store.size() / AREA;
     let mut count = 0;
-    for block in 0..blocks {
-        count += note_block(latest, store, former, block * BLOCK, (block + 1) * BLOCK);
+    for area in 0..areas {
+        count += note_area(latest, store, former, area * AREA, (area + 1) * AREA);
     }
-    count + note_block(latest, store, former, blocks * BLOCK, store.size())
+    count + note_area(latest, store, former, areas * AREA, store.size())
 }
 
-/// The same at the addresses from the first one up to the end.
+/// The same at the addresses from the first one up to the end. Blocks of words that are the same are passed over.
+fn note_area(
+    latest: &mut Store,
+    store: &Store,
+    former: &mut HeapCircularBuffer<FormerWord>,
+    first: u32,
+    end: u32,
+) -> usize
+    requires sizes { length latest.old ≡ length store.now }
+    requires order { first ≤ end }
+    requires inside { end ≤ length store.now }
+    requires room { length former.old.items ≤ former.old.capacity }
+    ensures latest { latest.new ≡ with_new_words latest.old store.now (range_with_len first (end - first)) }
+    ensures former { former.new ≡
+        ring_with former.old (former_words latest.old store.now (range_with_len first (end - first))) }
+    ensures count { result ≡ length (former_words latest.old store.now (range_with_len first (end - first))) }
+    ensures most { result ≤ end - first }
+{
+    if are_same_words(latest, store, first, end) {
+        return 0;
+    }
+    note_blocks(latest, store, former, first, end)
+}
+
+// The same, block by block.
+fn note_blocks(
+    latest: &mut Store,
+    store: &Store,
+    former: &mut HeapCircularBuffer<FormerWord>,
+    first: u32,
+    end: u32,
+) -> usize
+    requires sizes { length latest.old ≡ length store.now }
+    requires order { first ≤ end }
+    requires inside { end ≤ length store.now }
+    requires room { length former.old.items ≤ former.old.capacity }
+    ensures latest { latest.new ≡ with_new_words latest.old store.now (range_with_len first (end - first)) }
+    ensures former { former.new ≡
+        ring_with former.old (former_words latest.old store.now (range_with_len first (end - first))) }
+    ensures count { result ≡ length (former_words latest.old store.now (range_with_len first (end - first))) }
+    ensures most { result ≤ end - first }
+{
+    let blocks = (end - first) / BLOCK;
+    let mut count = 0;
+    for block in 0..blocks {
+        let start = first + block * BLOCK;
+        count += note_block(latest, store, former, start, start + BLOCK);
+    }
+    count + note_block(latest, store, former, first + blocks * BLOCK, end)
+}
+
+/// The same at the addresses from the first one up to the end, one by one unless all words are the same.
 fn note_block(
     latest: &mut Store,
     store: &Store,
@@ -86,7 +140,7 @@ fn note_block(
     ensures count { result ≡ length (former_words latest.old store.now (range_with_len first (end - first))) }
     ensures most { result ≤ end - first }
 {
-    if is_same_block(latest, store, first, end) {
+    if are_same_words(latest, store, first, end) {
         return 0;
     }
     let mut count = 0;
@@ -97,7 +151,7 @@ fn note_block(
 }
 
 // Whether both have the same words from the first address up to the end.
-fn is_same_block(latest: &Store, store: &Store, first: u32, end: u32) -> bool
+fn are_same_words(latest: &Store, store: &Store, first: u32, end: u32) -> bool
     requires order { first ≤ end }
     requires latest { end ≤ length latest.now }
     requires store { end ≤ length store.now }

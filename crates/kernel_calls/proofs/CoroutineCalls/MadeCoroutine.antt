@@ -167,19 +167,3 @@ pub createco-refused : (s : List ℕ) (tells : List ℕ → Type 0) (l : Lists) 
 createco-refused s tells l entry u h knows none =
     made-refused s l (create_tests l u) (created_by (data_taken (highest u) l) entry u l) tells 20 h knows
     (ap (λ o. cond (is_some o) None (Some 20)) (ap (first_run (need (highest u))) (sym (reads s l h).blocks) ∙ none))
-
--- what holds of a refusal, and of what is none
-pub on-err : (r : Result Run ℕ) (P : Type 0) → is_err r ≡ true → OnErr r P → P
-on-err (Ok run) P e p = cc
-on-err (Err code) P e p = p
-
-pub on-ok : (r : Result Run ℕ) (P : Type 0) → is_err r ≡ false → OnOk r P → P
-on-ok (Ok run) P e p = p
-on-ok (Err code) P e p = cc
-
-pub if-ok : (r : Result ℕ NoRoom) (c : ℕ) (P : ℕ → Type 0) → r ≡ Ok c → IfOk r P → P c
-if-ok (Ok d) c P e p = subst P (same e) p
-  where
-    same : ◌≡◌ {A = Result ℕ NoRoom} (Ok d) (Ok c) → d ≡ c
-    same e = cc
-if-ok (Err none) c P e p = cc

@@ -30,11 +30,11 @@ pub fn createco<Q: KindKeeper>(
         → IsMade store.old store.new (Q.tells kinds.new) result (createco l function u) }
     ensures room { Q.room kinds.new ≡ Q.room kinds.old }
 {
-    if tell_take(store, kinds, u.max(LEAST_HIGHEST)).is_err() {
+    let Ok(run) = tell_take(store, kinds, u.max(LEAST_HIGHEST)) else {
         return Err(NO_COROUTINE_ROOM);
-    }
+    };
     let task = caller(store);
-    let c = create_coroutine(store, task, function, u).unwrap();
+    let c = create_coroutine(store, run, task, function, u);
     kinds.claim(c, COROUTINE_WORDS);
     Ok(c)
 }

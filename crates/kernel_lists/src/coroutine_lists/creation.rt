@@ -1,5 +1,5 @@
 // A coroutine is made, and deleted.
-ghost use Rattle.std.specs.Prelude.{◌≡◌, ◌∷◌, IfOk, None, OnErr, OnOk};
+ghost use Rattle.std.specs.Prelude.{◌≡◌, ◌∷◌, OnErr, OnOk, Some};
 ghost use Rattle.kernel_lists.specs.GetvecChain.Give.{given};
 ghost use Rattle.kernel_lists.specs.LinkedList.Places.{without};
 ghost use Rattle.kernel_lists.specs.GetvecChain.Run.{first_run, need};
@@ -14,7 +14,7 @@ ghost use Rattle.kernel_lists.specs.TaskBlock.Lists.{coroutines_in};
 use crate::coroutine_lists::calls::BOTTOM;
 use crate::coroutine_lists::ends::CoEnd;
 use crate::coroutine_lists::members::check_idle;
-use crate::getvec_chain::{NoRoom, give, take};
+use crate::getvec_chain::{Run, give, take_from};
 use crate::linked_list::unlink;
 use crate::task_block::{TcbField, field, set_field};
 use word_store::{Store, set_words};
@@ -26,23 +26,20 @@ const LINK: u32 = 2;
 pub const LEAST_HIGHEST: u32 = 16;
 
 /// Makes a coroutine of the task at t, which will start at the function `entry`, in a block with the data words 0 to u, or
-/// to 16 where u is less. It is the first in the task's list. The answer is its address; `NoRoom` comes exactly where no run of
-/// free blocks is large enough, and then nothing is written.
-pub fn create(store: &mut Store, t: u32, entry: u32, u: u32) -> Result<u32, NoRoom>
-    requires { HasCoroutines store.old t }
-    ensures words { IfOk result (λ c. IsCreated store.old store.new t c entry u) }
-    ensures blocks { OnOk result
-        (blocks_in store.new ≡ taken (need (highest u)) (blocks_in store.old)) }
-    ensures coroutines { IfOk result
-        (λ c. coroutines_in store.new t ≡ c ∷ coroutines_in store.old t) }
+/// to 16 where u is less. The block is at the front of the run, which is the first that is large enough. The coroutine is the
+/// first in the task's list. The answer is its address.
+pub fn create(store: &mut Store, run: Run, t: u32, entry: u32, u: u32) -> u32
+    requires coroutines { HasCoroutines store.old t }
+    requires first { first_run (need (highest u)) (blocks_in store.old) ≡ Some run }
+    ensures words { IsCreated store.old store.new t result entry u }
+    ensures blocks { blocks_in store.new ≡ taken (need (highest u)) (blocks_in store.old) }
+    ensures coroutines { coroutines_in store.new t ≡ result ∷ coroutines_in store.old t }
     ensures active { active_in store.new t ≡ active_in store.old t }
     ensures valid { HasCoroutines store.new t }
-    ensures no_room { OnErr result (first_run (need (highest u)) (blocks_in store.old) ≡ None) }
-    ensures unchanged { OnErr result (store.new ≡ store.old) }
 {
     let highest = u.max(LEAST_HIGHEST);
     let next = field(store, t, TcbField::FirstCo);
-    let c = take(store, highest)?;
+    let c = take_from(store, run, highest);
     let bottom = store.address_of(c, BOTTOM);
     set_words(
         store,
@@ -50,7 +47,7 @@ pub fn create(store: &mut Store, t: u32, entry: u32, u: u32) -> Result<u32, NoRo
         &[bottom, 0, next, entry, highest, c, entry, 0, 0, entry],
     );
     set_field(store, t, TcbField::FirstCo, c);
-    Ok(c)
+    c
 }
 
 /// Deletes the coroutine c of the task at t and gives its block back.

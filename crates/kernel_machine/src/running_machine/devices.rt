@@ -47,7 +47,7 @@ fn enter_key(parts: &mut Parts)
     ensures keys { parts.new.keys.keys ≡ parts.old.keys.keys }
 {
     if let Some((due, byte)) = parts.keys.first() {
-        if due <= parts.step {
+        if u64::from(due) <= parts.step {
             parts.keys.advance();
             parts.tty.enter(byte);
         }

@@ -10,7 +10,7 @@ use std::marker::Model;
 #[derive(Drop)]
 pub struct Script {
     /// Each key as the step at which it is due and its byte.
-    keys: Vec<(u64, u8)>,
+    keys: Vec<(u32, u8)>,
     /// How many of them have come.
     come: usize,
 }
@@ -28,7 +28,7 @@ impl Model for Script {
 
 impl Script {
     /// These keys, of which none has come. `WantMemory` comes only where memory could not be had.
-    pub fn new(alloc: Global, keys: &[(u64, u8)]) -> Result<Script, WantMemory>
+    pub fn new(alloc: Global, keys: &[(u32, u8)]) -> Result<Script, WantMemory>
         ensures { IfOk result (λ s. s ≡ record { keys = keys.now; come = 0 }) }
     {
         match Vec::from_slice(alloc, keys) {
@@ -38,21 +38,21 @@ impl Script {
     }
 
     /// The first key that is still to come, or `None` exactly where there is none.
-    pub fn first(&self) -> Option<(u64, u8)>
+    pub fn first(&self) -> Option<(u32, u8)>
         ensures { result ≡ slice_get (still_to_come self.now) 0 }
     {
         self.keys.get(self.come).copied()
     }
 
     /// The keys that are still to come, lent.
-    pub fn rest(&self) -> &[(u64, u8)]
+    pub fn rest(&self) -> &[(u32, u8)]
         ensures { result.now ≡ still_to_come self.now }
     {
         self.keys.get(self.come..).unwrap_or(&[])
     }
 
     /// All keys, lent, those that have come too.
-    pub fn all(&self) -> &[(u64, u8)]
+    pub fn all(&self) -> &[(u32, u8)]
         ensures { result.now ≡ self.now.keys }
     {
         self.keys.as_slice()

@@ -80,7 +80,7 @@ pub(crate) fn before_key(parts: &Parts) -> u64
     ensures next { result ≡ 0 → ComeAfter (parts.now.step + 1) (still_to_come parts.now.keys) → ⊥ }
 {
     match parts.keys.first() {
-        Some((due, _)) => due.saturating_sub(parts.step + 1),
+        Some((due, _)) => u64::from(due).saturating_sub(parts.step + 1),
         None => u64::MAX,
     }
 }

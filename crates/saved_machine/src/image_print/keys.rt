@@ -24,7 +24,7 @@ pub(crate) fn print_coming_keys<K: Sink>(
 
 // A line for each of these keys.
 fn print_keys<K: Sink>(
-    keys: &[(u64, u8)],
+    keys: &[(u32, u8)],
     out: &mut K,
     pending: &mut Output,
 ) -> Result<(), SinkFault>

@@ -60,7 +60,7 @@ fn know_bytes(bytes: &[u8])
     ensures { IsBytes bytes.now }
 {}
 
-fn know_keys(keys: &[(u64, u8)])
+fn know_keys(keys: &[(u32, u8)])
     ensures { AllByRecursion (λ key. key.1 < 256) keys.now }
 {
     for key in keys {

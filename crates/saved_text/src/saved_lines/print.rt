@@ -103,7 +103,7 @@ pub fn print_word<K: Sink>(
 
 /// Adds the line of a key, with its step.
 pub fn print_key<K: Sink>(
-    step: u64,
+    step: u32,
     byte: u8,
     out: &mut K,
     pending: &mut Output,
@@ -117,7 +117,7 @@ pub fn print_key<K: Sink>(
         pending,
         &[
             Text(b"KEY "),
-            Decimal(step),
+            Decimal(u64::from(step)),
             Text(b" "),
             Text(&hex_digits(byte)),
             Text(b"\n"),

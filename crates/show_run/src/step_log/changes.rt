@@ -19,7 +19,7 @@ pub struct Keys {
     /// How many.
     pub count: usize,
     /// The step at which the first is due, and its byte.
-    pub first: Option<(u64, u8)>,
+    pub first: Option<(u32, u8)>,
 }
 
 /// The ticks so far, 0 on a machine without a kernel.

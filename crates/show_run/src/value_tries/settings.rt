@@ -71,13 +71,13 @@ pub fn set(alloc: Global, setting: Setting, value: u64, session: &mut Session)
 {
     match setting {
         Setting::Tick => session.period = value as u32,
-        Setting::Key(number) => set_key(alloc, number, value, &mut session.keys),
+        Setting::Key(number) => set_key(alloc, number, value as u32, &mut session.keys),
         Setting::Priority(task) => set_priority(alloc, task, value as u32, &mut session.lines),
         Setting::Stack(task) => set_stack(alloc, task, value as u32, &mut session.lines),
     }
 }
 
-fn set_key(alloc: Global, number: u64, step: u64, keys: &mut Keys)
+fn set_key(alloc: Global, number: u64, step: u32, keys: &mut Keys)
     ensures { keys.new ≡ keys_with number step keys.old }
 {
     let mut list = mem::replace(keys, Keys::new(Vec::new(alloc))).into_vec();
@@ -86,7 +86,7 @@ fn set_key(alloc: Global, number: u64, step: u64, keys: &mut Keys)
 }
 
 // Sets the step of the key with this number, where there is one.
-fn set_step(number: u64, step: u64, keys: &mut [(u64, u8)])
+fn set_step(number: u64, step: u32, keys: &mut [(u32, u8)])
     ensures { keys.new ≡ keys_with number step keys.old }
 {
     if 1 <= number && number <= keys.len() as u64 {

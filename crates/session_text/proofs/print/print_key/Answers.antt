@@ -6,4 +6,4 @@ use Rattle.session_text.proofs.print.print_key.Goals as goal
 pub returns-clause-text : goal.returns-clause-text
 returns-clause-text g c =
     let P = λ (t : List ℕ). Prints (g.K.Sink.holds c.args.out.now) (g.K.Sink.holds c.write_pieces.new.out) t c.write_pieces.result in
-    subst P (sym (key_pieces c.args.step c.args.byte)) (rw (← c.hex_digits.ensures) c.write_pieces.ensures.text)
+    rw (← c.from.ensures) (subst P (sym (key_pieces c.from.result c.args.byte)) (rw (← c.hex_digits.ensures) c.write_pieces.ensures.text))

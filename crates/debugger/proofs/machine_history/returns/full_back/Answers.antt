@@ -15,7 +15,7 @@ rebuild-requires c =
     ] in
     let left : c.match-files.parts.store ≡ c.match-undo.parts.store =
     elim c.match-files.branch [
-      | in-Some w ↦ ap (λ (p : Parts). p.store) w.parts-is ∙ ap (λ (p : Parts). p.store) w.restore_files.ensures ∙ files-store _ _
+      | in-Some w ↦ ap (λ (p : Parts). p.store) w.parts-is ∙ ap (λ (p : Parts). p.store) w.restore_files.ensures.parts ∙ files-store _ _
       | in_default-files w ↦ ap (λ (p : Parts). p.store) w.parts-is
     ] in
     subst CanWalkLists (sym (left ∙ undone ∙ c.undo.ensures.store)) c.requires.walk

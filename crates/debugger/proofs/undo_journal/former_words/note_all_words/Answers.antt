@@ -11,14 +11,14 @@ up_to a b low =
     let both : a + (b - a) ≡ b = omega arith in
     ap (λ i. range_with_len 0 a ++ range_with_len i (b - a)) first ∙ (sym (range_with_len-append 0 a (b - a)) ∙ ap (range_with_len 0) both)
 
-pub loop-block-preserved : goal.loop-block-preserved
-loop-block-preserved c =
-    let l = c.loop-block in
+pub loop-area-preserved : goal.loop-area-preserved
+loop-area-preserved c =
+    let l = c.loop-area in
     let old = c.args.latest.now in
     let new = c.args.store.now in
-    let first = l.block * 64 in
-    let end = (l.block + 1) * 64 in
-    let step = c.note_block-count in
+    let first = l.area * 512 in
+    let end = (l.area + 1) * 512 in
+    let step = c.note_area-count in
     let inv = l.invariant in
     let before : AreNoted old new (range_with_len 0 first) c.args.former.now l.latest l.former l.count =
     record { sizes = inv.sizes; latest = inv.latest; room = inv.room; former = inv.former; count = inv.count } in
@@ -36,21 +36,21 @@ loop-block-preserved c =
     }
 
 -- what is noted of all addresses
-noted : (c : goal.After-note_block) → AreNoted c.args.latest.now c.args.store.now (addresses_of c.args.store.now) c.args.former.now
-    c.note_block.new.latest c.note_block.new.former (c.loop-block.count + c.note_block.result)
+noted : (c : goal.After-note_area) → AreNoted c.args.latest.now c.args.store.now (addresses_of c.args.store.now) c.args.former.now
+    c.note_area.new.latest c.note_area.new.former (c.loop-area.count + c.note_area.result)
 noted c =
-    let l = c.loop-block in
+    let l = c.loop-area in
     let old = c.args.latest.now in
     let new = c.args.store.now in
-    let first = c.size-blocks.result / 64 * 64 in
+    let first = c.size-areas.result / 512 * 512 in
     let end = c.size.result in
-    let rest = c.note_block in
+    let rest = c.note_area in
     let inv = l.invariant in
-    let blocks : l.block * 64 ≡ first = omega (arith, l.auto.block-end, c.loop-block-test.false) in
+    let areas : l.area * 512 ≡ first = omega (arith, l.auto.area-end, c.loop-area-test.false) in
     let size : end ≡ length new = c.size.ensures in
-    let low : first ≤ end = omega (arith, c.size-blocks.ensures) in
+    let low : first ≤ end = omega (arith, c.size-areas.ensures) in
     let before : AreNoted old new (range_with_len 0 first) c.args.former.now l.latest l.former l.count =
-    subst (λ n. AreNoted old new (range_with_len 0 n) c.args.former.now l.latest l.former l.count) blocks
+    subst (λ n. AreNoted old new (range_with_len 0 n) c.args.former.now l.latest l.former l.count) areas
     (record { sizes = inv.sizes; latest = inv.latest; room = inv.room; former = inv.former; count = inv.count }) in
     subst (λ all. AreNoted old new all c.args.former.now rest.new.latest rest.new.former (l.count + rest.result))
     (up_to first end low ∙ ap (range_with_len 0) size)

@@ -6,9 +6,9 @@ use Rattle.debugger.specs.UndoJournal.Private.Rings.{ring_with}
 use Rattle.debugger.proofs.undo_journal.former_words.note_block.Goals as goal
 
 -- the words of the block are the same
-same : (c : goal.Then-is_same_block) → (i : ℕ) → i < c.args.end - c.args.first
+same : (c : goal.Then-are_same_words) → (i : ℕ) → i < c.args.end - c.args.first
     → get_or c.args.latest.now (c.args.first + i) 0 ≡ get_or c.args.store.now (c.args.first + i) 0
-same c = same_words c.args.latest.now c.args.store.now c.args.first c.args.end (sym c.is_same_block.ensures ∙ c.if-is_same_block.true)
+same c = same_words c.args.latest.now c.args.store.now c.args.first c.args.end (sym c.are_same_words.ensures ∙ c.if-are_same_words.true)
 
 pub loop-address-preserved : goal.loop-address-preserved
 loop-address-preserved c =
@@ -39,13 +39,13 @@ loop-address-preserved c =
       most = omega (arith, inv.most, step.ensures.count, length-former_at-le l.latest new l.address);
     }
 
-pub returns-then-is_same_block-clause-latest : goal.returns-then-is_same_block-clause-latest
-returns-then-is_same_block-clause-latest c = sym (with_new_words-same c.args.latest.now c.args.store.now c.args.first (c.args.end - c.args.first) (same c))
+pub returns-then-are_same_words-clause-latest : goal.returns-then-are_same_words-clause-latest
+returns-then-are_same_words-clause-latest c = sym (with_new_words-same c.args.latest.now c.args.store.now c.args.first (c.args.end - c.args.first) (same c))
 
-pub returns-then-is_same_block-clause-former : goal.returns-then-is_same_block-clause-former
-returns-then-is_same_block-clause-former c =
+pub returns-then-are_same_words-clause-former : goal.returns-then-are_same_words-clause-former
+returns-then-are_same_words-clause-former c =
     sym (ring_with-none c.args.former.now c.requires.room)
     ∙ ap (ring_with c.args.former.now) (sym (former_words-same c.args.latest.now c.args.store.now c.args.first (c.args.end - c.args.first) (same c)))
 
-pub returns-then-is_same_block-clause-count : goal.returns-then-is_same_block-clause-count
-returns-then-is_same_block-clause-count c = ap length (sym (former_words-same c.args.latest.now c.args.store.now c.args.first (c.args.end - c.args.first) (same c)))
+pub returns-then-are_same_words-clause-count : goal.returns-then-are_same_words-clause-count
+returns-then-are_same_words-clause-count c = ap length (sym (former_words-same c.args.latest.now c.args.store.now c.args.first (c.args.end - c.args.first) (same c)))

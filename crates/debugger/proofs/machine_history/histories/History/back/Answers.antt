@@ -1,7 +1,7 @@
 use Rattle.std.proofs.Common.{◌≡◌, ℕ, zero, suc, ◌<◌, ◌≤◌, length, min, sym, ap, ◌∙◌, arith}
 use Rattle.tripos_machine.specs.declared.parts.Parts.TheVariants.{Bare as BareMachine, Full as FullMachine}
 use Rattle.debugger.specs.MachineHistory.Pasts.{HistoryView, Now, now_of}
-use Rattle.debugger.proofs.MachineHistory.ReturnedParts.{HasGone, bare-returned, come-before, full-returned, has-gone, walk-before, words-before}
+use Rattle.debugger.proofs.MachineHistory.ReturnedParts.{HasGone, bare-returned, come-before, full-returned, has-gone, last-before, walk-before, words-before}
 use Rattle.debugger.proofs.machine_history.histories.History.back.Goals as goal
 use Rattle.debugger.proofs.machine_history.histories.History.back.Goals.{in-Bare, in-Full}
 
@@ -34,6 +34,13 @@ full_back-requires-clause-walk c =
     let few : c.min-n.result ≤ length h.journal.past = omega (arith, c.min-n.ensures, c.len.ensures) in
     let seen = ap (λ (v : HistoryView). v.now) c.self.view_is ∙ c.requires in
     walk-before h c.self.invariant c.min-n.result (not-none c.min-n.result c.if-n-eq0.false) few c.args.machine.state c.in-Full.parts c.args.machine.keys c.in-Full.ensures.represents seen c.in-Full.ensures.keys
+
+pub full_back-requires-clause-last : goal.full_back-requires-clause-last
+full_back-requires-clause-last c =
+    let h = c.self.inside in
+    let few : c.min-n.result ≤ length h.journal.past = omega (arith, c.min-n.ensures, c.len.ensures) in
+    let seen = ap (λ (v : HistoryView). v.now) c.self.view_is ∙ c.requires in
+    last-before h c.self.invariant c.min-n.result (not-none c.min-n.result c.if-n-eq0.false) few c.args.machine.state c.in-Full.parts c.args.machine.keys c.in-Full.ensures.represents seen c.in-Full.ensures.keys
 
 pub full_back-requires-clause-come : goal.full_back-requires-clause-come
 full_back-requires-clause-come c =
