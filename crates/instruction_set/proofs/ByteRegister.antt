@@ -6,6 +6,7 @@ use Rattle.word_store.specs.Bytes.{byte_of, with_byte}
 use Rattle.word_store.specs.declared.registers.Regs.{Regs}
 use Rattle.instruction_set.specs.declared.instruction_table.effects.Effect.{Effect}
 use Rattle.instruction_set.specs.declared.instruction_table.effects.Effect.TheVariants.{LoadP, LoadG, LoadGk, LoadPk, LoadAtTarget, StoreG0, StorePk, AddP, AddG, Rv, RvP, StP, Gbyt, Pbyt, Xpbyt, Div, Rem, Atc, Btc, JumpIf, JumpIfZero, CallG, Rtn, Swl, Swb, Brk}
+use Rattle.instruction_set.specs.declared.operand_forms.instructions.DecodeEnd.{DecodeEnd}
 use Rattle.instruction_set.specs.declared.operand_forms.instructions.Instr.{Instr}
 use Rattle.instruction_set.specs.OperandForms.Offset.{half_offset}
 use Rattle.instruction_set.specs.OperandForms.Steps.{◌>>=◌}
@@ -13,7 +14,7 @@ use Rattle.instruction_set.specs.declared.Fault.{Fault}
 use Rattle.instruction_set.specs.declared.Outcome.TheVariants.{Sys as Call}
 use Rattle.instruction_set.specs.Change.{Change, fault, read, keep, load, set_a, jump, write, load_at, load_through, add_at, set_a_at, set_a_through, write_through, byte_place, get_byte, put_byte, divide, holds, jump_if, enter, enter_global, leave}
 use Rattle.instruction_set.specs.Effect.{change_of}
-use Rattle.instruction_set.specs.Instruction.{After, after, effected, is_call, made, settled, write_fault}
+use Rattle.instruction_set.specs.Instruction.{After, after, decided, effected, is_call, made, settled, write_fault}
 use Rattle.instruction_set.specs.Switch.{compared, halfword, jump_by, search_from, switch_by_key, switch_by_label}
 
 abbrev KeepsByte : Result Change Fault → Type 0
@@ -138,3 +139,7 @@ module _ (marks : ℕ → Bool) (words : List ℕ) (r : Regs) (h : r.c < 256) wh
   effected-byte i =
       either-byte (is_call i.effect) (after Call words r) (settled marks words r (change_of i.effect words (record r { pc = add r.pc i.length }) i.operand i.target r.pc)) h
       (settled-byte _ (change_of-byte words (record r { pc = add r.pc i.length }) h i.effect i.operand i.target r.pc))
+
+  pub decided-byte : (d : Result Instr DecodeEnd) → (decided marks words r d).regs.c < 256
+  decided-byte (Ok i) = effected-byte i
+  decided-byte (Err end) = h

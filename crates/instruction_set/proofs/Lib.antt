@@ -4,5 +4,6 @@ pub mod ByteRegister
 pub mod PlacesWritten
 pub mod WritesMade
 pub mod Unexecuted
+pub mod RowsDecoded
 pub mod SearchLaw
 pub mod KeySearch

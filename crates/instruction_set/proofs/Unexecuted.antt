@@ -33,13 +33,13 @@ module _ (marks : ℕ → Bool) (s : List ℕ) (r : Regs) where
   stays-settled (Err f) = stays-as (Faulted f)
   stays-settled (Ok c) = stays-made (write_fault marks s c.writes) c
 
-  pub stays-effected : (i : Instr) → StaysOrRuns s r (effected marks s r i)
+  stays-effected : (i : Instr) → StaysOrRuns s r (effected marks s r i)
   unfolding effected
   stays-effected i =
       let c : Result Change Fault = change_of i.effect s (record r { pc = add r.pc i.length }) i.operand i.target r.pc in
       stays-either (is_call i.effect) (after Sys s r) (settled marks s r c) (stays-as Sys) (stays-settled c)
 
-  stays-decided : (d : Result Instr DecodeEnd) → StaysOrRuns s r (decided marks s r d)
+  pub stays-decided : (d : Result Instr DecodeEnd) → StaysOrRuns s r (decided marks s r d)
   stays-decided (Err e) = stays-as _
   stays-decided (Ok i) = stays-effected i
 

@@ -6,6 +6,7 @@ pub mod Effect
 pub mod Instruction
 pub mod NextWrites
 pub mod Places
+pub mod RowEffect
 pub mod SearchOrder
 pub mod Switch
 pub mod Writes

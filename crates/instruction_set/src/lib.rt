@@ -22,8 +22,11 @@ pub mod writes;
 pub mod written_words;
 
 pub use breakpoints::has_breakpoint;
+use decode_faults::undecoded;
+use effects::row_effect;
 pub use instruction_table::{Form, Row, byte_of, row};
 use lent::Lent;
+use operand_forms::fetch::byte_at;
 pub use operand_forms::{Code, Instr, decode};
 pub use places::{Places, written_places};
 pub use unguarded::NoKernel;
@@ -59,6 +62,7 @@ pub enum Outcome {
 /// Executes the instruction at PC. At `Sys`, `Returned` and `Fault` the registers and the store are as before. It becomes part of
 /// its caller, and is for a loop that executes many: where two callers have the same kind of guard, they share most of it.
 #[inline(always)]
+#[tactic(auto, using(crate::proofs::RowsDecoded::byte_decided))]
 pub fn execute<X: Guard>(store: &mut Store, regs: &mut Regs, guard: &X) -> Outcome
     requires byte { regs.old.c < 256 }
     requires guard { X.can_guard guard.now store.old }
@@ -74,9 +78,9 @@ pub fn execute<X: Guard>(store: &mut Store, regs: &mut Regs, guard: &X) -> Outco
     if regs.pc == 0 {
         return Outcome::Returned;
     }
-    match crate::operand_forms::decode(&*store, regs.pc) {
-        Ok(instr) => effects::effect(store, regs, guard, instr),
-        Err(end) => Outcome::Fault(decode_faults::fault_of(end)),
+    match byte_at(&*store, regs.pc) {
+        Ok(byte) => row_effect(store, regs, guard, byte),
+        Err(end) => undecoded(end),
     }
 }
 

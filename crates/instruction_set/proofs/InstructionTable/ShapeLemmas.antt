@@ -3,12 +3,12 @@ use Rattle.std.proofs.Common.{◌≡◌, ℕ, ◌<◌, Option, map, refl}
 use Rattle.std.specs.List.{range_with_len}
 use Rattle.std.specs.Option.{option_map}
 use Rattle.instruction_set.specs.declared.instruction_table.rows.Shape.{Shape}
-use Rattle.instruction_set.specs.InstructionTable.Shapes.{shape_by, shape_of, slot_at}
+use Rattle.instruction_set.specs.InstructionTable.Shapes.{carried_at, number_at, operation_at, shape_by, shape_of}
 use Rattle.instruction_set.specs.InstructionTable.Table.{entry, column0, column1, column2, column3, column4, column5, column6, column7}
 use Rattle.instruction_set.proofs.InstructionTable.Entries.{same_at}
 
 abbrev by_slot : ℕ → Option Shape
-by_slot byte = let slot = slot_at byte in shape_by slot.0 slot.1 slot.2
+by_slot byte = shape_by (operation_at byte) (number_at byte) (carried_at byte)
 
 abbrev by_entry : ℕ → Option Shape
 by_entry byte = option_map shape_of (entry byte)

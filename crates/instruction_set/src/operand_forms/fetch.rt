@@ -27,15 +27,15 @@ pub fn decode<X: Code>(code: &X, pc: u32) -> Result<Instr, DecodeEnd>
     })
 }
 
-// What a form tells of an instruction.
+/// What a form tells of an instruction.
 #[derive(Clone, Copy)]
-struct Operand {
+pub struct Operand {
     /// The operand.
-    number: u32,
+    pub number: u32,
     /// How many bytes the instruction has.
-    length: u32,
+    pub length: u32,
     /// The byte address that it leads to, where it leads anywhere.
-    target: u32,
+    pub target: u32,
 }
 
 #[inline(always)]
@@ -60,8 +60,9 @@ fn target_operand(target: u32) -> Operand
     }
 }
 
+/// The operand of a form, after the function byte at pc.
 #[inline(always)]
-fn operand_at<X: Code>(code: &X, pc: u32, form: Form) -> Result<Operand, DecodeEnd>
+pub fn operand_at<X: Code>(code: &X, pc: u32, form: Form) -> Result<Operand, DecodeEnd>
     ensures value { result ≡ operand_at (X.code_bytes code.now) pc form }
     ensures length { IfOk result (λ o. (1 ≤ o.length) × (o.length ≤ 5)) }
 {
@@ -81,8 +82,9 @@ fn operand_at<X: Code>(code: &X, pc: u32, form: Form) -> Result<Operand, DecodeE
     }
 }
 
+/// The byte at an address.
 #[inline(always)]
-fn byte_at<X: Code>(code: &X, a: u32) -> Result<u8, DecodeEnd>
+pub fn byte_at<X: Code>(code: &X, a: u32) -> Result<u8, DecodeEnd>
     ensures { result ≡ byte_or_outside (X.code_bytes code.now) a }
 {
     code.byte(a).ok_or(DecodeEnd::Outside(a))
