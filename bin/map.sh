@@ -18,59 +18,12 @@ hunk_of() { # NAME HUNK
         }'
 }
 
-# The text with a label on each line that gives bytes, and without its globals. The labels go to a file, each as LINE LABEL SHOWN,
-# where SHOWN is - for a label that the text does not have.
-labelled() { # MARKS
-    awk -v marks="$1" '
-        {
-            text = $0
-            sub(/\r$/, "", text)
-            sub(/;.*/, "", text)
-            gsub(/^ +| +$/, "", text)
-            head = text
-            sub(/ .*/, "", head)
-            if (head ~ /:$/) {
-                label[NR] = substr(head, 1, length(head) - 1)
-                sub(/^[^ ]* */, "", text)
-            }
-            rest[NR] = text
-        }
-        END {
-            new = "z"
-            for (i = 1; i <= NR; i++) while (index(label[i], new) == 1) new = new "z"
-            for (i = 1; i <= NR; i++) {
-                if (rest[i] ~ /^GLOBAL( |$)/) rest[i] = ""
-                if (rest[i] == "" && label[i] == "") { print ""; continue }
-                own = label[i] == "" ? new i : label[i]
-                print own ": " rest[i]
-                print i, own, (label[i] == "" ? "-" : label[i]) > marks
-            }
-        }'
-}
-
-# The offsets of the global table of the module on standard input.
-global_offsets() {
-    awk "$reads_modules"'END { read_globals(1); for (k = numbers[1]; k >= 1; k--) print place_of[1, k] }'
-}
-
 # Adds a hunk of a program to the map: the file's module is in $module, the hunk's assembly in $plain.
 map_hunk() { # NAME FILE HUNK
     printf 'program %s %s\n' "$1" "$2" >> "$map"
     printf '%s\n' "$module" | hunk_of "$1" "$3" >> "$map"
-    : > "$log.marks"
-    : > "$log.offsets"
-    labelled "$log.marks" < "$plain" > "$log.labelled"
-    marks=$(wc -l < "$log.marks") first=1
-    # a module has at most 1,000 globals
-    while [ "$first" -le "$marks" ]; do
-        sed -n "$first,$((first + 999))p" "$log.marks" > "$log.some"
-        { cat "$log.labelled" && awk '{ print "GLOBAL " NR " " $2 }' "$log.some"; } > "$log.text"
-        "$top/tripos" asm < "$log.text" 2> "$log" | global_offsets >> "$log.offsets"
-        first=$((first + 1000))
-    done
-    paste -d ' ' "$log.offsets" "$log.marks" | awk -v name="$1" '
-        $4 != "-" { label = $4 }
-        { print "line", name, $1, $2, (label == "" ? "-" : label) }' >> "$map"
+    "$top/bin/tool" asm-places < "$plain" > "$log.places" || fail 9 "the lines of $2 could not be placed"
+    sed "s/^/line $1 /" "$log.places" >> "$map"
 }
 
 # Adds a program to the map, if there is to be one and it does not have it. The hunks of a module text are NAME, NAME.2 and so on, with the

@@ -1,7 +1,6 @@
 // What the assembler says of a text: its module, or the lines in error.
 import { ask } from './asking.js';
 import { refusal_in } from './codes.js';
-import { read_module } from './module_text.js';
 import { plain_text, told_errors } from './plain_text.js';
 
 const MOST_ERRORS = 10;
@@ -41,34 +40,10 @@ async function plain_errors(plain) {
   return told_errors(given.text, plain.split('\n'));
 }
 
-/**
- * Where the bytes of each line are, as the assembler says: `[{line, offset}]` in the hunk, by the text with a label on each line and a global
- * for each label. The program is one that assembles.
- */
+/** Where the bytes of each line of a program are, in its hunk: `[{line, offset}]`. The program is one that assembles. */
 export async function offsets_in(file) {
   const { plain } = await plain_text(file);
-  const lines = plain.split('\n').map((line) => line.replace(/\r$/, '').replace(/;.*/, '').replace(/^ +| +$/g, ''));
-  const labels = lines.map((line) => /^([^ ]*):(?= |$)/.exec(line)?.[1] ?? '');
-  let fresh = 'z';
-  while (labels.some((label) => label.startsWith(fresh))) fresh += 'z';
-  const marks = [];
-  const marked = lines.map((line, at) => {
-    const rest = labels[at] ? line.slice(labels[at].length + 1).trim() : line;
-    const kept = /^GLOBAL( |$)/.test(rest) ? '' : rest;
-    if (kept === '' && !labels[at]) return '';
-    const own = labels[at] || `${fresh}${at + 1}`;
-    marks.push({ line: at + 1, own, label: labels[at] });
-    return `${own}: ${kept}`;
-  });
-  const found = [];
-  // a module has at most 1,000 globals
-  for (let first = 0; first < marks.length; first += 1000) {
-    const some = marks.slice(first, first + 1000);
-    const asked = [...marked, ...some.map(({ own }, i) => `GLOBAL ${i + 1} ${own}`)].join('\n');
-    const given = await ask('tripos', ['asm'], asked, 'the assembler says where the lines are');
-    if (given.status !== 0) return found;
-    const { globals } = read_module(given.text);
-    some.forEach(({ line, label }, i) => found.push({ line, label, offset: globals[i][1] }));
-  }
-  return found;
+  const given = await ask('tripos_tools', ['asm-places'], plain, 'the places of the lines are looked for');
+  if (given.status !== 0) return [];
+  return [...given.text.matchAll(/^([0-9]+) ([0-9]+) .*$/gm)].map(([, offset, line]) => ({ line: Number(line), offset: Number(offset) }));
 }

@@ -10,6 +10,7 @@ ghost use Rattle.tools_run.specs.ToolAnswers.{IsToolAnswer, told, told_answer};
 use crate::commands::{Asked, Tool};
 use assembly_errors::assembly_errors;
 use assembly_notes::assembly_notes;
+use assembly_places::assembly_places;
 use byte_streams::{Sink, write_text};
 use friendly_assembly::friendly_text;
 use program_answers::{Status, TextAnswers, status_after};
@@ -57,6 +58,7 @@ fn tell(alloc: Global, tool: Tool, name: &[u8], text: &[u8]) -> Result<ToolText,
         Tool::Asm => friendly_text(alloc, name, text),
         Tool::AsmErrors => assembly_errors(alloc, name, text),
         Tool::AsmNotes => assembly_notes(alloc, name, text),
+        Tool::AsmPlaces => assembly_places(alloc, name, text),
     }
 }
 

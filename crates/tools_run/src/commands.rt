@@ -13,6 +13,8 @@ pub enum Tool {
     AsmErrors,
     /// What is strange in an assembly text that is taken, in words.
     AsmNotes,
+    /// Where the bytes of each line of an assembly text are.
+    AsmPlaces,
 }
 
 /// What is asked for: a tool, and how its input is called.
@@ -54,6 +56,7 @@ fn tool_named(word: &str) -> Option<Tool>
         "asm" => Some(Tool::Asm),
         "asm-errors" => Some(Tool::AsmErrors),
         "asm-notes" => Some(Tool::AsmNotes),
+        "asm-places" => Some(Tool::AsmPlaces),
         _ => None,
     }
 }
