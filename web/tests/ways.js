@@ -142,6 +142,19 @@ const ways = {
     same('a refusal names the line', (await text_of('#problem')).includes('program.asm, line 3'), true);
   },
 
+  async 'a program in which something is strange'() {
+    await open_example('hello');
+    await tab.click('textarea[data-file="program.asm"]');
+    await tab.value("document.querySelector('textarea[data-file=\"program.asm\"]').select()");
+    const strange = '        LLL text\n        SP3\ntext:   DB 72\n';
+    await tab.type(strange);
+    await tab.until("document.querySelectorAll('.note-line').length === 2");
+    const told = [...answered('tripos_tools', ['asm-notes'], strange).matchAll(/^line ([0-9]+): (.*)$/gm)];
+    same('the strange lines', await tab.value("[...document.querySelectorAll('.note-line')].map((it) => it.dataset.line).join()"), told.map(([, line]) => line).join());
+    same('what is strange there', (await text_of('.note-line')).includes(told[0][2]), true);
+    same('nothing is wrong', await tab.value("document.querySelectorAll('.error-line').length"), 0);
+  },
+
   async 'a program in friendly assembly'() {
     await open_example('hello');
     await tab.value("[...document.querySelectorAll('.file-tools button')].find((it) => it.textContent === 'Rename').click()");
