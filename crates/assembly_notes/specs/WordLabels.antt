@@ -9,11 +9,9 @@ use Rattle.tool_texts.specs.Reports.{Report}
 use Rattle.assembly_notes.specs.NamedTexts.{note}
 use Rattle.assembly_notes.specs.declared.named_texts.NamedText.{NamedText}
 
--- an instruction of this name takes the word at a label, or its address
+-- an instruction of this name takes the word at its label, or its address
 abbrev pub takes_word : List ℕ → Bool
-takes_word name =
-    bytes_eq name (codes "LLL") || bytes_eq name (codes "LLL$") || bytes_eq name (codes "LL") || bytes_eq name (codes "LL$")
-    || bytes_eq name (codes "SL") || bytes_eq name (codes "SL$")
+takes_word name = bytes_eq name (codes "LLL") || bytes_eq name (codes "LL") || bytes_eq name (codes "SL")
 
 -- the byte of a place, where it is no multiple of 4
 abbrev pub byte_inside : Place → Option ℕ

@@ -33,16 +33,11 @@ pub fn push_word_notes<'a>(
     }
 }
 
-// Whether an instruction of this name takes the word at a label, or its address.
+// Whether an instruction of this name takes the word at its label, or its address. Those whose label is that of a `RES` are left out.
 fn takes_word(name: &[u8]) -> bool
     ensures { result ≡ takes_word name.now }
 {
-    name == b"LLL".as_slice()
-        || name == b"LLL$".as_slice()
-        || name == b"LL".as_slice()
-        || name == b"LL$".as_slice()
-        || name == b"SL".as_slice()
-        || name == b"SL$".as_slice()
+    name == b"LLL".as_slice() || name == b"LL".as_slice() || name == b"SL".as_slice()
 }
 
 // The same for this label.
