@@ -6,10 +6,11 @@ use Rattle.assembly_notes.specs.Notes.{assembly_notes}
 use Rattle.assembly_places.specs.Places.{assembly_places}
 use Rattle.friendly_assembly.specs.PlainText.{friendly_told}
 use Rattle.program_answers.specs.Answer.{Answer}
+use Rattle.session_making.specs.Tool.{session_told}
 use Rattle.program_answers.specs.declared.status.Status.TheVariants.{Done, Refused}
 use Rattle.tools_run.specs.declared.commands.Asked.{Asked}
 use Rattle.tools_run.specs.declared.commands.Tool.{Tool}
-use Rattle.tools_run.specs.declared.commands.Tool.TheVariants.{Asm, AsmErrors, AsmNotes, AsmPlaces}
+use Rattle.tools_run.specs.declared.commands.Tool.TheVariants.{Asm, AsmErrors, AsmNotes, AsmPlaces, Session}
 
 -- what a tool gives of a text with this name
 abbrev pub told : Tool → List ℕ → List ℕ → Told
@@ -17,6 +18,7 @@ told Asm name text = friendly_told name text
 told AsmErrors name text = assembly_errors name text
 told AsmNotes name text = assembly_notes name text
 told AsmPlaces name text = assembly_places name text
+told Session name text = session_told text
 
 -- its answer: the text is refused where something is wrong in it, and the bytes say what
 abbrev pub told_answer : Told → Answer

@@ -14,6 +14,7 @@ use assembly_places::assembly_places;
 use byte_streams::{Sink, write_text};
 use friendly_assembly::friendly_text;
 use program_answers::{Status, TextAnswers, status_after};
+use session_making::make_session;
 use std::alloc::{AllocError, Global};
 use tool_texts::ToolText;
 
@@ -59,6 +60,7 @@ fn tell(alloc: Global, tool: Tool, name: &[u8], text: &[u8]) -> Result<ToolText,
         Tool::AsmErrors => assembly_errors(alloc, name, text),
         Tool::AsmNotes => assembly_notes(alloc, name, text),
         Tool::AsmPlaces => assembly_places(alloc, name, text),
+        Tool::Session => make_session(alloc, text),
     }
 }
 

@@ -15,6 +15,8 @@ pub enum Tool {
     AsmNotes,
     /// Where the bytes of each line of an assembly text are.
     AsmPlaces,
+    /// The text of the session that a bundle asks for.
+    Session,
 }
 
 /// What is asked for: a tool, and how its input is called.
@@ -57,6 +59,7 @@ fn tool_named(word: &str) -> Option<Tool>
         "asm-errors" => Some(Tool::AsmErrors),
         "asm-notes" => Some(Tool::AsmNotes),
         "asm-places" => Some(Tool::AsmPlaces),
+        "session" => Some(Tool::Session),
         _ => None,
     }
 }

@@ -1,0 +1,4 @@
+pub mod Rows
+pub mod SessionFronts
+pub mod WordsAfter
+pub mod Written
