@@ -51,3 +51,58 @@ add_to_map() { # NAME FILE
 begin_map() {
     [ -z "$map" ] || : > "$map" || fail 9 "$map cannot be written"
 }
+
+# How many bytes of code the module on standard input has, between the hunk's length and its global table.
+code_size() {
+    awk "$reads_modules"'END { read_globals(1); print (table_at[1] > 1 ? 4 * (table_at[1] - 1) : 0) }'
+}
+
+# Adds the programs of a bare machine, each with the byte of its hunk.
+map_bare() { # FILE..
+    at=796
+    for file in "$@"; do
+        assemble "$file"
+        program_name "$file"
+        ! grep -q "^program $name " "$map" || fail 2 "two files have the name $name, which a map cannot tell apart"
+        add_to_map "$name" "$file"
+        printf 'at %s %s\n' "$name" "$at" >> "$map"
+        at=$((at + $(printf '%s\n' "$module" | code_size)))
+    done
+}
+
+# Adds a program of a machine with a kernel.
+map_program() { # FILE
+    assemble "$1"
+    program_name "$1"
+    add_to_map "$name" "$1"
+}
+
+# Adds the programs of items.
+map_items() { # ITEM..
+    while [ $# -ge 1 ]; do
+        case $1 in
+            task) shift 4 ;;
+            program)
+                map_program "$2"
+                shift 2
+                ;;
+            *)
+                shift 3
+                continue
+                ;;
+        esac
+        while :; do
+            case $1 in *.asm | *.s | *.module) map_program "$1" ;; *) break ;; esac
+            shift
+        done
+    done
+}
+
+# Makes the map of a session that is made.
+map_session() { # WORD..
+    begin_map
+    case $task in
+        bare) map_bare "$@" ;;
+        *) map_items "$@" ;;
+    esac
+}
