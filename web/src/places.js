@@ -3,6 +3,7 @@ import { assembled, offsets_in } from './assemble.js';
 import { read_module } from './module_text.js';
 import { file_named } from './project.js';
 
+const FIRST_HUNK = 796;
 // the lines of the programs of a session that the form has made, by that session
 const known = new WeakMap();
 // the program of each module that was seen with its name, by where it is: a program that has changed its own words has none
@@ -16,9 +17,19 @@ export async function programs_of(made) {
       const file = file_named(program.file, made.project) ?? { name: program.file, text: '' };
       const { module } = await assembled(file);
       return { ...program, bytes: module ? 4 * read_module(module).code_end : 0, lines: module ? await offsets_in(file) : [] };
-    })));
+    })).then(with_bases));
   }
   return known.get(made);
+}
+
+// Programs with the byte of the hunk of each on a bare machine, where the code of one is after that of another from byte 800 on.
+function with_bases(programs) {
+  let base = FIRST_HUNK;
+  return programs.map((program) => {
+    const own = { ...program, base };
+    base += Math.max(program.bytes - 4, 0);
+    return own;
+  });
 }
 
 /** Where the programs are loaded in a moment: each program with the byte address of its hunk. */

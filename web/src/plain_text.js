@@ -2,8 +2,8 @@
 import { ask } from './asking.js';
 import { is_friendly } from './project.js';
 
-// the status by which the program says that something is wrong in the text
-const REFUSED = 3;
+/** The status by which the program says that something is wrong in its input. */
+export const REFUSED = 3;
 
 /**
  * The plain text of a program, a file, as `{plain}`; or `{errors}`, lines where forms are wrong, by their numbers. Line n of the plain text is
