@@ -5,8 +5,6 @@ use Rattle.byte_streams.specs.Pieces.{joined}
 use Rattle.hex.specs.Hex.{encode_lower}
 use Rattle.module_text.specs.TextReader.Lines.{text_of_lines}
 use Rattle.session_text.specs.Canonical.{head_text, lines_text, machine_text}
-use Rattle.session_text.specs.Entries.{statement_keys}
-use Rattle.session_text.specs.Statements.{Statement, At, Key}
 use Rattle.session_text.specs.declared.sessions.LineForm.TheVariants.{Code, File, Task}
 use Rattle.session_text.specs.declared.sessions.Session.{Session}
 use Rattle.session_text.specs.declared.sessions.SessionLine.{SessionLine}
@@ -81,15 +79,6 @@ kernel_session request files tasks = record {
 }
 
 -- ---- its text
-
--- what is typed, as a line states it
-abbrev pub stated : Typed → Statement
-stated (TypedText step text) = At step text
-stated (TypedKey step byte) = Key step byte
-
--- a session, with what is typed as its keys
-abbrev pub with_typed : Session → List Typed → Session
-with_typed s typed = record s { keys = flat_map (λ one. statement_keys (stated one)) typed }
 
 -- the line of what is typed
 abbrev pub typed_line : Typed → List ℕ
