@@ -84,6 +84,7 @@ NR == 1 {
     priority_of[lane] = $0; sub(/.*, priority /, "", priority_of[lane]); sub(/,.*/, "", priority_of[lane])
     state[lane] = / held/ ? "held" : / runs/ ? "run" : / waits/ ? "wait" : / dead/ ? "dead" : "ready"
     now_state[lane] = state[lane]
+    if (state[lane] == "run") running = lane
     if (lane >= 5) use(lane)
     next
 }
@@ -112,7 +113,7 @@ function read_packet(task, kind, words, p, a, b, rest) {
         return
     }
     a = words; sub(/^packet [0-9]+ from /, "", a)
-    b = words; sub(/^packet [0-9]+ from .* to /, "", b)
+    b = words; sub(/^packet [0-9]+ from (task [0-9]+|the [a-z]+) (back )?to /, "", b)
     rest = b; if (index(rest, ",")) sub(/^[^,]*, /, "", rest); else rest = ""
     a = lane_of(a); b = lane_of(b)
     if (a == b) return
@@ -138,8 +139,9 @@ function place(lane) {
 
 # A packet comes to a task: if it waits, it is ready.
 function wakes(lane) {
-    if (now_state[lane] == "held") held_from[lane] = "ready"
-    if (lane > 0 && (now_state[lane] == "wait" || now_state[lane] == "dead" || !(lane in now_state))) set_state(lane, "ready")
+    if (lane > 0 && !(lane in now_state)) set_state(lane, "ready")
+    else if (now_state[lane] == "held") held_from[lane] = "ready"
+    else if (lane > 0 && (now_state[lane] == "wait" || now_state[lane] == "dead")) set_state(lane, "ready")
 }
 
 function read_event(task, kind, words, lane, p, n) {
@@ -159,6 +161,7 @@ function read_event(task, kind, words, lane, p, n) {
         else if (words !~ /^(taskwait|qpkt|wrch)\(/) { n = words; sub(/ = -1$/, "", n); sub(/ = -1, in /, ", in ", n); say(n, ""); mark(lane, "dot") }
         if (words ~ /^hold\(/) { n = words; sub(/^hold\(/, "", n); hold(n + 0) }
         if (words ~ /^changepri\(/) { n = words; sub(/^changepri\(/, "", n); set_priority(n + 0, n) }
+        if (words ~ /^deletetask\(/) { n = words; sub(/^deletetask\(/, "", n); set_state(n + 0, "dead") }
         if (words ~ /^release\(/) { n = words; sub(/^release\(/, "", n); set_state(n + 0, n + 0 in held_from ? held_from[n + 0] : "ready") }
     } else if (kind == "console") {
         if (lane == "" || words_output()) say("writes " words, "")

@@ -156,11 +156,12 @@ class Story {
       this.#say(says + here);
       this.#mark(task, 'dot');
     }
-    const other = Number(/^(?:hold|release)\(([0-9]+)/.exec(call)?.[1] ?? 0);
+    const other = Number(/^(?:hold|release|deletetask)\(([0-9]+)/.exec(call)?.[1] ?? 0);
     if (call.startsWith('hold(')) {
       this.#held_from.set(other, this.#states.get(other) === 'run' ? 'ready' : this.#states.get(other));
       this.#set(other, 'held');
     } else if (call.startsWith('release(')) this.#set(other, this.#held_from.get(other) ?? 'ready');
+    else if (call.startsWith('deletetask(')) this.#set(other, 'dead');
   }
 
   #read_run(words) {
