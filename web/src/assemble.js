@@ -40,10 +40,13 @@ async function plain_errors(plain) {
   return told_errors(given.text, plain.split('\n'));
 }
 
-/** Where the bytes of each line of a program are, in its hunk: `[{line, offset}]`. The program is one that assembles. */
+/**
+ * Where the bytes of each line of a program are, in its hunk: `[{line, offset, label}]`, where label is the last one up to there, or `-`. The program is
+ * one that assembles.
+ */
 export async function offsets_in(file) {
   const { plain } = await plain_text(file);
   const given = await ask('tripos_tools', ['asm-places'], plain, 'the places of the lines are looked for');
   if (given.status !== 0) return [];
-  return [...given.text.matchAll(/^([0-9]+) ([0-9]+) .*$/gm)].map(([, offset, line]) => ({ line: Number(line), offset: Number(offset) }));
+  return [...given.text.matchAll(/^([0-9]+) ([0-9]+) (.*)$/gm)].map(([, offset, line, label]) => ({ line: Number(line), offset: Number(offset), label }));
 }

@@ -1,17 +1,16 @@
 // The view What happened: the picture of a run, its log, and the state and the code at the cursor.
-import { ask, Stopped } from './asking.js';
+import { newest, Stopped } from './asking.js';
 import { ending_in_words } from './codes.js';
 import { after_pause, button, fill, labelled, make } from './elements.js';
-import { lines_of_log, steps_of_log } from './log.js';
-import { is_session, length_of, state_at, steps_of, with_steps } from './moment.js';
-import { places_after, places_in_run, what_led_to_0 } from './names.js';
-import { picture_of } from './picture.js';
+import { lines_of_log, log_of, without_steps } from './log.js';
+import { is_session, length_of, state_at, steps_of } from './moment.js';
+import { places_after } from './names.js';
+import { picture_file, picture_of, places_in } from './picture.js';
 import { line_at, loaded_programs, programs_of } from './places.js';
 import { file_named } from './project.js';
 import { ending_of } from './run.js';
 import { change, state, watch } from './state.js';
 import { state_parts, with_places } from './state_view.js';
-import { story_of } from './story.js';
 import { go_to_step } from './steps.js';
 import { save_as } from './text.js';
 import { made_of, session_now } from './work.js';
@@ -21,6 +20,7 @@ const MOST_ROWS = 200;
 const MOST_LINES = 300;
 // pixels for each unit of the drawing, where there is room
 const SCALE = 1.3;
+const drawing_now = newest();
 let reading = 0;
 
 /** Reads the run of the session that is there now, from a step on. */
@@ -34,48 +34,16 @@ async function read_story(from) {
     const { last, closing, is_known, given } = await length_of(session);
     if (!closing) throw new Error(ending_of({ letters: given.text, status: given.status, command: 'run' }).words);
     const to = Math.min(last, from + MOST_STEPS_SHOWN);
-    const before = await state_at(session, Math.max(0, from - 1));
-    const log = await ask('tripos_show', ['log', String(from), String(to)], with_steps(session, to), 'what happened in each step is told');
-    const lines = lines_of_log(log.text);
-    const period = Number(/^TICK ([0-9]+)/m.exec(session)?.[1] ?? 0);
-    let story = null;
-    if (period) {
-      const steps = steps_of_log(lines);
-      const tasks = before.state.parts.tasks ?? [];
-      const place_at = await places_in_run(session, from, steps, tasks);
-      story = story_of(steps, tasks, place_at);
-      tell_places(lines, place_at);
-      await name_lanes(story, session, to);
-    }
+    const log = await log_of(session, from, to);
     if (own !== reading) return;
-    change({ story: { session, from, to, last, closing, is_known, lines, period, ...story }, cursor: Math.min(Math.max(state.cursor, from), to) });
+    const is_bare = /^BARE/m.test(session);
+    const lines = lines_of_log(log);
+    const shown = without_steps(log);
+    const rows = is_bare ? null : [...new Set(lines_of_log(shown).map(({ step }) => step))];
+    change({ story: { session, from, to, last, closing, is_known, lines, rows, log: shown }, cursor: Math.min(Math.max(state.cursor, from), to) });
     go_to_cursor(state.cursor);
   } catch (error) {
     if (own === reading && !(error instanceof Stopped)) change({ story: { failed: error.message } });
-  }
-}
-
-/** Gives the lines of a call, a fault and a death words for where the task is. */
-function tell_places(lines, place_at) {
-  const last_done = new Map();
-  for (const line of lines) {
-    const { step, task, pc, kind, words } = line;
-    if (task < 5) continue;
-    if (kind === 'step' && !words.startsWith('outside')) last_done.set(task, words);
-    if (kind === 'die') line.place = what_led_to_0(last_done.get(task), (byte) => place_at(step, byte));
-    else if (kind === 'call' || kind === 'fault' || (kind === 'stop' && words.startsWith('fault '))) line.place = place_at(step, pc);
-  }
-}
-
-/** Names the tasks that began in the run, by the state in which they run first. */
-async function name_lanes({ lanes, rows }, session, to) {
-  const nameless = lanes.filter(({ party, name }) => party >= 5 && !name).slice(0, 8);
-  for (const lane of nameless) {
-    const first = rows.find(({ changes }) => changes.some(({ party, state: its }) => party === lane.party && its === 'run'));
-    const { state: told } = await state_at(session, Math.min(to, first?.step ?? to));
-    const line = told.parts.tasks?.map((it) => it.line).find((it) => it.startsWith(`task ${lane.party} at `));
-    lane.name = /, program (.*)$/.exec(line ?? '')?.[1] ?? '';
-    lane.priority ??= Number(/priority ([0-9]+)/.exec(line ?? '')?.[1] ?? 0);
   }
 }
 
@@ -99,7 +67,7 @@ async function go_to_cursor(step) {
 /** The step of the next row, or of the one before. */
 function next_row(by) {
   const { story, cursor } = state;
-  const steps = story?.rows ? story.rows.map(({ step }) => step) : [...new Set((story?.lines ?? []).map(({ step }) => step))];
+  const steps = story?.rows ?? [...new Set((story?.lines ?? []).map(({ step }) => step))];
   const found = by > 0 ? steps.find((step) => step > cursor) : steps.findLast((step) => step < cursor);
   if (found !== undefined) go_to_cursor(found);
 }
@@ -117,12 +85,11 @@ export function happened_key(event) {
 
 /** The code at a step: the lines around the one that its instruction comes from. */
 function code_at_cursor({ story, cursor, at_cursor }) {
-  const line = story.lines.find(({ step, kind }) => step === cursor && (kind === 'step' || kind === 'call'));
+  const line = story.lines.find(({ step, kind }) => step === cursor && kind === 'step');
   if (!line) return make('p', { class: 'help' }, cursor === 0 ? 'Step 0 is the boot.' : 'No instruction of a guest in this step.');
   const place = at_cursor?.cursor === cursor ? line_at(at_cursor.loaded, line.pc) : null;
-  const done = line.kind === 'step' ? line.words.replace(/^[0-9]+ /, '') : line.words;
   const words = line.task >= 5 && at_cursor?.cursor === cursor ? at_cursor.place_in(line.pc) : '';
-  const told = make('p', {}, `${line.task ? `task ${line.task}: ` : ''}${done} at ${line.pc}${words && `, ${words}`}`
+  const told = make('p', {}, `${line.task ? `task ${line.task}: ` : ''}${line.words} at ${line.pc}${words && `, ${words}`}`
     + `${place ? `, line ${place.line} of ${place.file}` : ''}`);
   if (!place) return told;
   const lines = (file_named(place.file)?.text ?? '').split('\n');
@@ -139,10 +106,9 @@ function log_table({ story, cursor }, has_steps) {
   const first = Math.max(0, Math.min(shown.length - MOST_LINES, (now < 0 ? shown.length : now) - MOST_LINES / 2));
   const lines = shown.slice(first, first + MOST_LINES);
   const node = make('table', { class: 'words log' }, make('tr', {}, ['step', 'task', 'at', 'what'].map((it) => make('th', { scope: 'col' }, it))),
-    lines.map(({ step, task, pc, kind, words, place }) => make('tr', { 'data-step': String(step) },
-      make('td', {}, String(step)), make('td', {}, task ? String(task) : '–'), make('td', {}, pc ? String(pc) : '–'),
-      make('td', { class: 'wide' }, make('strong', {}, kind), ` ${kind === 'step' ? words.replace(/^[0-9]+ /, '') : words}`,
-        place ? `${kind === 'die' ? ':' : ','} ${place}` : ''))));
+    lines.map(({ step, task, pc, kind, words }) => make('tr', { 'data-step': String(step) },
+      make('td', {}, String(step)), make('td', {}, String(task ?? '–')), make('td', {}, String(pc ?? '–')),
+      make('td', { class: 'wide' }, make('strong', {}, kind), ` ${words}`))));
   return { node, from: first === 0 ? 0 : lines[0].step + 1, to: first + MOST_LINES >= shown.length ? Infinity : lines.at(-1).step - 1 };
 }
 
@@ -193,23 +159,30 @@ export function happened_view() {
         ? `steps ${story.from.toLocaleString('en')} to ${story.to.toLocaleString('en')} of ${story.is_known ? '' : 'at most '}${story.last.toLocaleString('en')}` : null,
       story.rows && first_row > 0 ? button('◀ rows before', () => turn_rows(-MOST_ROWS), { class: 'small' }) : null,
       story.rows && first_row + MOST_ROWS < story.rows.length ? button('rows after ▶', () => turn_rows(MOST_ROWS), { class: 'small' }) : null);
-    if (!story.rows) {
+    if (story.rows) draw_picture(story);
+    else {
       places = new Map();
       fill(drawing);
-      return;
     }
-    const ended = story.to === story.last && story.is_known ? ending_in_words(story.closing) : '';
-    const drawn = picture_of(story, { first: first_row, count: MOST_ROWS, period: story.period, ended, last: story.to,
-      width: Math.max(400, drawing.clientWidth / SCALE) });
-    places = drawn.places;
-    fill(drawing, drawn.svg);
+  }
+
+  async function draw_picture(story) {
+    try {
+      const drawn = await drawing_now(() => picture_of(story.log,
+        { first: first_row, count: MOST_ROWS, width: Math.max(400, drawing.clientWidth / SCALE) }));
+      if (!drawn || state.story !== story) return;
+      places = places_in(drawn);
+      fill(drawing, drawn);
+      mark_cursor();
+    } catch (error) {
+      if (!(error instanceof Stopped)) fill(drawing, make('p', { class: 'empty bad' }, `✕ ${error.message}`));
+    }
   }
 
   function turn_rows(by) {
     first_row = Math.max(0, first_row + by);
-    const { step } = state.story.rows[first_row];
     show_picture();
-    go_to_cursor(step);
+    go_to_cursor(state.story.rows[first_row]);
   }
 
   function show_cursor() {
@@ -217,20 +190,25 @@ export function happened_view() {
     if (!story?.session) return;
     slider.value = String(cursor);
     if (document.activeElement !== number) number.value = String(cursor);
-    const at = story.rows?.findLastIndex(({ step }) => step <= cursor) ?? -1;
+    const at = story.rows?.findLastIndex((step) => step <= cursor) ?? -1;
     if (at >= 0 && (at < first_row || at >= first_row + MOST_ROWS)) { first_row = at - (at % MOST_ROWS); show_picture(); }
-    const mark = drawing.querySelector('.cursor');
-    const place = at >= 0 ? places.get(story.rows[at].step) : null;
-    if (mark && place) {
-      mark.setAttribute('y', story.rows[at].step === cursor ? place.top : place.top + place.height);
-      mark.setAttribute('height', story.rows[at].step === cursor ? place.height : 2);
-      const svg = drawing.querySelector('svg');
-      const scale = svg.getBoundingClientRect().width / svg.viewBox.baseVal.width;
-      const top = place.top * scale;
-      if (top < drawing.scrollTop + 20 || top > drawing.scrollTop + drawing.clientHeight - 60) drawing.scrollTop = top - drawing.clientHeight / 2;
-    }
+    mark_cursor();
     show_log();
     show_state();
+  }
+
+  /** Puts the mark of the cursor on the row of its step, or after the row before it. */
+  function mark_cursor() {
+    const { story, cursor } = state;
+    const step = story?.rows?.findLast((it) => it <= cursor);
+    const mark = drawing.querySelector('.cursor');
+    const place = places.get(step);
+    if (!mark || !place) return;
+    mark.setAttribute('y', step === cursor ? place.top : place.top + place.height);
+    mark.setAttribute('height', step === cursor ? place.height : 2);
+    const svg = drawing.querySelector('svg');
+    const top = place.top * svg.getBoundingClientRect().width / svg.viewBox.baseVal.width;
+    if (top < drawing.scrollTop + 20 || top > drawing.scrollTop + drawing.clientHeight - 60) drawing.scrollTop = top - drawing.clientHeight / 2;
   }
 
   function show_log() {
@@ -270,7 +248,7 @@ export function happened_view() {
   show_picture();
   read_story(0);
   show_cursor();
-  const save = () => drawing.querySelector('svg') && save_as('run.svg', picture_file(drawing.querySelector('svg')));
+  const save = async () => { if (state.story?.rows) save_as('run.svg', await picture_file(state.story.log)); };
   const to_steps = () => { change({ view: 'steps', step: state.cursor }); go_to_step(state.cursor); };
   node.append(
     make('section', { class: 'card steer', 'aria-label': 'Cursor' },
@@ -284,19 +262,4 @@ export function happened_view() {
       make('div', { class: 'parts code-part' }, make('h3', {}, 'Code'), code)),
     make('section', { class: 'card scrolls', 'aria-label': 'State' }, make('div', { class: 'parts' }, words)));
   return node;
-}
-
-const FILE_STYLE = 'text{font:9px monospace;fill:#111;white-space:pre}.head{font-weight:bold;text-anchor:middle;font-size:10px}.name{font-size:8px;text-anchor:middle}.small,.quiet{font-size:8px;fill:#444}'
-  + '.end{text-anchor:end}.red{fill:#b00000}line,path{fill:none;stroke:#111;stroke-width:1}.rule{stroke:#888}.tick{stroke:#999;stroke-dasharray:1 3}.wait{stroke-dasharray:2 3;stroke:#555}.device{stroke:#aaa}'
-  + '.run{fill:#333;stroke:#333}.ready{fill:#d8d8d8;stroke:#777}.held{fill:#fff;stroke:#b00000}.return{stroke:#1c4f9c;stroke-dasharray:5 2}.write{stroke:#1d7a3a;stroke-dasharray:1.5 2}.tip{stroke:none}'
-  + '.tip.send{fill:#111}.tip.return{fill:#1c4f9c}.tip.write{fill:#1d7a3a}.dot{fill:#fff;stroke:#111}.cross{stroke:#b00000;stroke-width:2}.stop{stroke-width:2.5}.spot,.cursor{fill:none;stroke:none}';
-
-/** The drawing as a file of its own. */
-function picture_file(svg) {
-  const copy = svg.cloneNode(true);
-  copy.setAttribute('xmlns', 'http://www.w3.org/2000/svg');
-  const style = document.createElementNS('http://www.w3.org/2000/svg', 'style');
-  style.textContent = FILE_STYLE;
-  copy.prepend(style);
-  return copy.outerHTML;
 }

@@ -1,5 +1,5 @@
 // Where a byte address lies: in which module, and in which function, if a BCPL compiler has left its name before it. The rules are those of
-// bin/names.awk, and so are the words.
+// crates/run_names, and so are the words.
 import { ask } from './asking.js';
 import { closing_of } from './codes.js';
 import { with_steps } from './moment.js';
@@ -106,43 +106,4 @@ export async function places_after(session, step) {
   const words = new Map();
   for (const [, at, word] of given.text.slice(given.text.length - length).matchAll(/^([0-9]+) ([0-9a-f]{8})$/gm)) words.set(Number(at), parseInt(word, 16));
   return places_in(words, session);
-}
-
-/** Whether a step tells where a guest is. */
-function tells_place({ task, call, fault, stop, is_dead }) {
-  return task >= 5 && Boolean(call || fault || is_dead || /^fault /.test(stop ?? ''));
-}
-
-/**
- * The places in a run, as a Promise of a function from a step and a byte address to words. `steps` are those of its log from a step on, and `tasks`
- * the tasks before it. The store is looked at where a program begins that is none of the session's, since its module is new.
- */
-export async function places_in_run(session, from, steps, tasks) {
-  const of_session = new Set([...session.matchAll(/^TASK ([0-9]+)/gm)].map(([, number]) => Number(number)));
-  const known = new Set(tasks.filter(({ line }) => !/, is dead/.test(line)).map(({ line }) => Number(/^task ([0-9]+)/.exec(line)[1])));
-  const layouts = [{ step: Math.max(0, from - 1), is_wanted: false }];
-  for (const step of steps) {
-    if (tells_place(step)) layouts.at(-1).is_wanted = true;
-    if (step.is_dead) known.delete(step.task);
-    for (const { kind, words } of step.events) {
-      const task = kind === 'run' ? Number(/^task ([0-9]+)/.exec(words)?.[1] ?? 0) : 0;
-      if (task < 5 || of_session.has(task) || known.has(task)) continue;
-      known.add(task);
-      if (layouts.at(-1).step === step.step) continue;
-      layouts.push({ step: step.step, is_wanted: false });
-    }
-  }
-  for (const layout of layouts) if (layout.is_wanted) layout.place_in = await places_after(session, layout.step);
-  return (step, byte) => layouts.findLast((it) => it.step < step || it === layouts[0])?.place_in?.(byte) ?? '';
-}
-
-/** How PC became 0, by the last step line of the task. */
-export function what_led_to_0(step_line, place_in) {
-  const [, byte, what] = /^([0-9]+) (.*)$/.exec(step_line ?? '') ?? [];
-  if (!what) return '';
-  if (what === 'RTN') return 'its start has returned';
-  const words = place_in(Number(byte));
-  const place = `${byte}${words && `, ${words},`}`;
-  if (/^K[0-9]+G /.test(what)) return `${what} at ${place} called global ${what.split(' ')[1]}, which is 0`;
-  return `${what} at ${place} ${what.startsWith('K') ? 'called address 0' : 'led there'}`;
 }

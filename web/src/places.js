@@ -16,7 +16,8 @@ export async function programs_of(made) {
     known.set(made, Promise.all(made.programs.map(async (program) => {
       const file = file_named(program.file, made.project) ?? { name: program.file, text: '' };
       const { module } = await assembled(file);
-      return { ...program, bytes: module ? 4 * read_module(module).code_end : 0, lines: module ? await offsets_in(file) : [] };
+      const { words, moved, code_end } = module ? read_module(module) : { words: [], moved: [], code_end: 0 };
+      return { ...program, words, moved, bytes: 4 * code_end, lines: module ? await offsets_in(file) : [] };
     })).then(with_bases));
   }
   return known.get(made);

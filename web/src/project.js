@@ -36,7 +36,7 @@ export function is_friendly(name) {
 
 /** The name of a file's program in the machine. */
 export function program_name(name) {
-  return name.replace(/\.(asm|s)$/, '');
+  return name.replace(/\.(asm|s)$/, '').slice(0, 12);
 }
 
 export function file_named(name, project = state.project) {

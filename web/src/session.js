@@ -1,8 +1,8 @@
 // The session of a project, as the tool makes it of a bundle (docs/manual/bundles.md), and what is wrong in the project.
 import { ask } from './asking.js';
+import { file_word, no_file_word, word } from './bundle.js';
 import { REFUSED } from './plain_text.js';
 import { file_named, is_assembly, program_name } from './project.js';
-import { bytes_of } from './text.js';
 
 const NOTE = 'session: note: ';
 
@@ -40,10 +40,6 @@ function bare_files({ files }) {
   return files.map(({ name }) => name).filter(is_assembly);
 }
 
-function word(text) {
-  return `word ${bytes_of(text).length}\n${text}\n`;
-}
-
 // what is said of an empty field is that it is none
 function field(text) {
   return word(text || 'none');
@@ -51,8 +47,7 @@ function field(text) {
 
 function path(name, project) {
   const file = file_named(name, project);
-  const size = bytes_of(name).length;
-  return file ? `file ${size} ${bytes_of(file.text).length}\n${name}\n${file.text}\n` : `none ${size}\n${name}\n`;
+  return file ? file_word(name, file.text) : no_file_word(name);
 }
 
 /** The notes and the session of what the tool gives. */

@@ -14,6 +14,7 @@ import { source_view } from './source_view.js';
 import { change, state, watch } from './state.js';
 import { state_parts, with_places } from './state_view.js';
 import { counted, signed_word } from './text.js';
+import { typed_words } from './typed_words.js';
 import { made_of, session_now } from './work.js';
 
 const LISTED = 12;
@@ -324,7 +325,7 @@ export function steps_view() {
   return make('div', { class: 'steps' }, make('section', { class: 'card steer', 'aria-label': 'Steps' }, controls(), said),
     make('section', { class: 'card', 'aria-label': 'Program' }, make('div', { class: 'bar' }, tabs), source.node,
       make('h2', { class: 'over-output' }, 'Console'), output),
-    make('section', { class: 'card scrolls', 'aria-label': 'The machine' }, middle),
+    make('section', { class: 'card scrolls', 'aria-label': 'The machine' }, middle, typed_words()),
     make('section', { class: 'card scrolls', 'aria-label': 'Store and kernel' }, right_above,
       make('div', { class: 'parts' }, part('Words of the store', chooser, words)), right));
 }

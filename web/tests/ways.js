@@ -225,6 +225,23 @@ const ways = {
     await at(20);
   },
 
+  async 'short words'() {
+    await open_example('recursion');
+    const made = await session();
+    await go('steps');
+    await tab.click('#typed-words summary');
+    for (const word of ['s 5', 'r']) {
+      await tab.click('#typed-word');
+      await tab.type(word);
+      await tab.press('Enter');
+      await tab.until(`document.getElementById('typed-words-told').textContent.includes('> ${word}\\n')`);
+    }
+    const of_steps = (text) => text.split('\n').filter((line) => /^(at|REGS) /.test(line)).join();
+    const shown = await text_of('#typed-words-told');
+    same('the words show what the debugger does', of_steps(shown), of_steps(answered('tripos', ['debug'], `${made}STEP 5\nREGS\n`)));
+    same('they show the line of assembly', /^ {2}\S+\.asm:[0-9]+/m.test(shown), true);
+  },
+
   async 'what happened'() {
     await open_example('packets');
     const made = await session();

@@ -8,7 +8,7 @@ use Rattle.tripos_machine.specs.Step.{Stepped, run}
 use Rattle.tripos_machine.proofs.StateRuns.{run-counts, run-later, run-more, run-steps}
 use Rattle.debugger.specs.declared.limits.Limits.{Limits}
 use Rattle.debugger.specs.Debugged.{Debugging, HasDebugged, steps_left, went_back}
-use Rattle.debugger.specs.Private.Runs.{IsWithin}
+use Rattle.debugger.specs.Runs.{IsWithin}
 use Rattle.debugger.proofs.StepsTo.{went-on}
 use Rattle.tripos_machine.proofs.QuietSteps.{run-none}
 

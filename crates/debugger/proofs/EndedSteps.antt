@@ -13,7 +13,7 @@ use Rattle.debugger.specs.declared.orders.Order.{Order}
 use Rattle.debugger.specs.declared.orders.Order.TheVariants.{Break}
 use Rattle.debugger.specs.Breakpoints.{with_breakpoint}
 use Rattle.debugger.specs.Debugged.{Debugging, obeyed, stepped, steps_left, steps_text, steps_to, undone}
-use Rattle.debugger.specs.Private.Runs.{EndsSteps, EndsTold}
+use Rattle.debugger.specs.Runs.{EndsSteps, EndsTold}
 use Rattle.debugger.specs.Texts.{place_text}
 use Rattle.debugger.proofs.DebuggedRuns.{debugged-all, debugged-none, back-stays}
 use Rattle.debugger.proofs.StepsTo.{next-bytes}

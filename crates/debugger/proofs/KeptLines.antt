@@ -9,7 +9,7 @@ use Rattle.debugger.specs.declared.orders.Order.{Order}
 use Rattle.debugger.specs.declared.orders.Order.TheVariants.{Back, Blocks, Break, Continue, DeviceQueue, Instructions, Registers, Step, TaskQueue, Tasks, Unbreak, Words}
 use Rattle.debugger.specs.Debugged.{Debugging, HasDebugged, Told, obeyed, past_of, steps_left}
 use Rattle.debugger.specs.OrderLines.{is_back, takes_steps}
-use Rattle.debugger.specs.Private.Runs.{EndsTold, EndsToldBack}
+use Rattle.debugger.specs.Runs.{EndsTold, EndsToldBack}
 
 -- ---- a line that neither takes nor undoes steps
 

@@ -15,7 +15,7 @@ use Rattle.debugger.specs.declared.orders.BadLine.{BadLine}
 use Rattle.debugger.specs.declared.orders.Order.{Order}
 use Rattle.debugger.specs.declared.orders.Order.TheVariants.{Back, Blocks, Break, Continue, DeviceQueue, Instructions, Registers, Step, TaskQueue, Tasks, Unbreak, Words}
 use Rattle.debugger.specs.Debugged.{Debugging, HasDebugged, line_obeyed, obeyed, past_after, past_of, steps_left, steps_to}
-use Rattle.debugger.specs.Private.Runs.{IsWithin}
+use Rattle.debugger.specs.Runs.{IsWithin}
 use Rattle.debugger.proofs.DebuggedRuns.{debugged-all, debugged-then, left-goes, within-then}
 use Rattle.debugger.proofs.StepsTo.{run-one, to-most}
 

@@ -6,4 +6,4 @@ pub mod Breakpoints
 pub mod Views
 pub mod Texts
 pub mod Debugged
-pub mod Private
+pub mod Runs

@@ -9,7 +9,7 @@ use std::marker::Model;
 
 /// At most 16 byte addresses, each once.
 #[derive(Drop)]
-pub(crate) struct Breakpoints {
+pub struct Breakpoints {
     addresses: ArrayVec<u32, 16>,
 }
 

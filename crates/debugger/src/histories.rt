@@ -10,7 +10,7 @@ ghost use Rattle.tripos_machine.specs.Step.{run};
 ghost use Rattle.debugger.specs.Debugged.{Debugging, HasDebugged, debugged, fewer_text, line_obeyed, obeyed, past_after, steps_left, steps_text, steps_to};
 ghost use Rattle.debugger.specs.Orders.{order_of};
 ghost use Rattle.debugger.specs.OrderLines.{is_back};
-ghost use Rattle.debugger.specs.Private.Runs.{EndsSteps, EndsToldBack, IsWithin};
+ghost use Rattle.debugger.specs.Runs.{EndsSteps, EndsToldBack, IsWithin};
 ghost use Rattle.debugger.specs.Texts.{place_text};
 
 use crate::Order;

@@ -2,11 +2,11 @@
 #![tactic(auto)]
 
 pub mod blocks;
-mod breakpoints;
+pub mod breakpoints;
 pub mod histories;
 pub mod instructions;
 pub mod laws;
-mod limits;
+pub mod limits;
 pub mod lines;
 pub mod machine_history;
 pub mod orders;
@@ -19,12 +19,14 @@ pub mod undo_journal;
 pub mod words;
 
 pub use blocks::gather_blocks;
+pub use breakpoints::Breakpoints;
 pub use histories::debug_back;
 pub use instructions::gather_instructions;
+pub use limits::Limits;
 pub use lines::{check_lines, goes_back};
 pub use machine_history::History;
-pub use orders::{BadLine, Order};
-pub use places::gather_registers;
-pub use runs::is_guest_next;
-pub use sessions::debug;
+pub use orders::{BadLine, Order, order_of};
+pub use places::{gather_place, gather_registers};
+pub use runs::{is_guest_next, steps_left, take_steps_to};
+pub use sessions::{debug, obey};
 pub use words::gather_word;

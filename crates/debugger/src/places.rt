@@ -9,8 +9,9 @@ use byte_streams::Piece::{Decimal, Text};
 use byte_streams::{Output, Sink, SinkFault, gather, gather_pieces};
 use tripos_machine::Machine;
 
-/// Gathers where the machine is: the steps since it had taken the first ones, PC, and the task that runs; or that it has stopped.
-pub(crate) fn gather_place<K: Sink>(
+/// Gathers where the machine is: the steps since it had taken the first ones, PC, and the task that runs; or that it has stopped. `SinkFault` comes
+/// only where the sink's count of faults rose; then a prefix is written.
+pub fn gather_place<K: Sink>(
     machine: &Machine,
     first: u64,
     out: &mut K,

@@ -5,7 +5,7 @@ ghost use Rattle.kernel_model.specs.KernelRecord.Ranges.{most_steps};
 ghost use Rattle.tripos_machine.specs.State.{steps_of, stop_of};
 ghost use Rattle.tripos_machine.specs.Step.{run};
 ghost use Rattle.debugger.specs.Debugged.{steps_left, steps_text, steps_to};
-ghost use Rattle.debugger.specs.Private.Runs.{EndsSteps, IsWithin};
+ghost use Rattle.debugger.specs.Runs.{EndsSteps, IsWithin};
 ghost use Rattle.debugger.specs.Views.{is_at, is_end, is_guest_next};
 
 use crate::breakpoints::Breakpoints;
@@ -75,8 +75,9 @@ fn take_steps<K: Sink>(
     Ok(())
 }
 
-// Takes steps up to a breakpoint or a stop, at most so many, and gathers their console bytes.
-fn take_steps_to<K: Sink>(
+/// Takes steps up to a breakpoint or a stop, at most so many, and gathers their console bytes. `SinkFault` comes only where the sink's count of faults
+/// rose; then a prefix is written, and the machine is as it is after some of the steps.
+pub fn take_steps_to<K: Sink>(
     machine: &mut Machine,
     stops: &Breakpoints,
     most: u64,
@@ -125,7 +126,7 @@ pub fn is_guest_next(machine: &Machine) -> bool
 }
 
 /// The steps that may be taken yet: none on a machine that has stopped.
-pub(crate) fn steps_left(machine: &Machine, limits: Limits) -> u64
+pub fn steps_left(machine: &Machine, limits: Limits) -> u64
     requires { steps_of machine.now.state ≤ limits.last }
     ensures { result ≡ steps_left limits machine.now.state }
 {

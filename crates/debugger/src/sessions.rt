@@ -9,7 +9,7 @@ ghost use Rattle.debugger.specs.Breakpoints.{with_breakpoint};
 ghost use Rattle.debugger.specs.Debugged.{Debugging, HasDebugged, debugged, fewer_text, full_text, line_obeyed, obeyed};
 ghost use Rattle.debugger.specs.OrderLines.{takes_steps};
 ghost use Rattle.debugger.specs.Orders.{order_of};
-ghost use Rattle.debugger.specs.Private.Runs.{EndsTold, IsWithin};
+ghost use Rattle.debugger.specs.Runs.{EndsTold, IsWithin};
 ghost use Rattle.debugger.specs.Texts.{place_text};
 
 use crate::Order;
@@ -83,8 +83,9 @@ fn obey_line<K: Sink>(
     }
 }
 
-/// Does what a line asks for, where no step can be undone. The machine stays as it is where no steps are asked for.
-pub(crate) fn obey<K: Sink>(
+/// Does what an order asks for, where no step can be undone, and gathers what it writes. The machine stays as it is where no steps are asked for.
+/// `SinkFault` comes only where the sink's count of faults rose; then a prefix is written, and the machine is as it is after some of the steps.
+pub fn obey<K: Sink>(
     order: Order,
     limits: Limits,
     machine: &mut Machine,

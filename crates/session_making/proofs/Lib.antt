@@ -1,4 +1,3 @@
 pub mod Rows
 pub mod SessionFronts
-pub mod WordsAfter
 pub mod Written

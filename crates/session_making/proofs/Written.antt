@@ -1,17 +1,18 @@
 -- What is given where nothing is wrong.
 use Rattle.std.proofs.Common.{◌≡◌, ℕ, false, List, [], Result, Ok, Err, refl, sym}
+use Rattle.std.specs.Option.{ok_or}
 use Rattle.module_text.specs.TextReader.Refusal.{Refusal as TextRefusal}
 use Rattle.session_text.specs.Canonical.{canonical}
 use Rattle.session_text.specs.SessionOfText.{session_of}
 use Rattle.session_text.specs.declared.sessions.Session.{Session}
-use Rattle.session_making.specs.Bundles.{bundle_of}
+use Rattle.tool_bundles.specs.Bundles.{bundle_of}
 use Rattle.session_making.specs.Laws.{Writes}
 use Rattle.session_making.specs.Requests.{request_of}
 use Rattle.session_making.specs.Sessions.{session_text}
 use Rattle.session_making.specs.Stops.{at_place}
 use Rattle.session_making.specs.Tool.{bare_made, bare_text, bundle_text, entries_text, frame_of, kernel_text, make_items, noted_text, session_told, text_by, told_by}
 use Rattle.session_making.specs.declared.bare.BareCode.{BareCode}
-use Rattle.session_making.specs.declared.bundles.Entry.{Entry}
+use Rattle.tool_bundles.specs.declared.bundles.Entry.{Entry}
 use Rattle.session_making.specs.declared.makings.Making.{Making}
 use Rattle.session_making.specs.declared.makings.Typed.{Typed}
 use Rattle.session_making.specs.declared.requests.Kind.{Kind}
@@ -19,6 +20,7 @@ use Rattle.session_making.specs.declared.requests.Kind.TheVariants.{Bare, Guests
 use Rattle.session_making.specs.declared.requests.Request.{Request}
 use Rattle.session_making.specs.declared.stops.Place.TheVariants.{Request as InRequest}
 use Rattle.session_making.specs.declared.stops.Refusal.{Refusal}
+use Rattle.session_making.specs.declared.wrongs.Wrong.TheVariants.{NoBundle}
 use Rattle.session_making.proofs.SessionFronts.{printed_front}
 
 -- what is made is written, if it is made
@@ -50,7 +52,7 @@ entries_is : (entries : List Entry) (read : Result Request Refusal) → at_place
 entries_is entries (Ok request) h = rw h (kind_is request.kind request)
 entries_is entries (Err r) h = rw h tt
 
-bundle_is : (bundle : List ℕ) (read : Result (List Entry) Refusal) → at_place InRequest (bundle_of bundle) ≡ read → IfMade (bundle_text bundle)
+bundle_is : (bundle : List ℕ) (read : Result (List Entry) Refusal) → at_place InRequest (ok_or (bundle_of bundle) NoBundle) ≡ read → IfMade (bundle_text bundle)
 bundle_is bundle (Ok entries) h = rw h (entries_is entries (at_place InRequest (request_of entries)) refl)
 bundle_is bundle (Err r) h = rw h tt
 
@@ -61,7 +63,7 @@ told_is (Err r) w right = cc
 -- where nothing is wrong, a text is written that is read
 pub written : (bundle : List ℕ) → (session_told bundle).is_wrong ≡ false → Writes (session_told bundle).bytes
 unfolding session_told
-written bundle right = told_is (bundle_text bundle) (bundle_is bundle (at_place InRequest (bundle_of bundle)) refl) right
+written bundle right = told_is (bundle_text bundle) (bundle_is bundle (at_place InRequest (ok_or (bundle_of bundle) NoBundle)) refl) right
 
 -- the text of a record without typed things is its printed text
 pub printed : (s : Session) → s.keys ≡ [] → session_text s [] ≡ canonical s

@@ -6,7 +6,7 @@ use Rattle.session_making.specs.Modules.{file_module}
 use Rattle.session_making.specs.Notes.{globals_note}
 use Rattle.session_making.specs.Tables.{hunk_code, hunk_numbers}
 use Rattle.session_making.specs.declared.bare.BareCode.{BareCode}
-use Rattle.session_making.specs.declared.bundles.Entry.{Entry}
+use Rattle.tool_bundles.specs.declared.bundles.Entry.{Entry}
 use Rattle.session_making.specs.declared.wrongs.Wrong.{Wrong}
 use Rattle.session_making.specs.declared.wrongs.Wrong.TheVariants.{HunkCount, NoRoom}
 

@@ -9,7 +9,7 @@ use Rattle.session_text.specs.Ranges.{highest_task}
 use Rattle.session_text.specs.Statements.{one_byte}
 use Rattle.session_making.specs.Numbers.{priority_in, stack_in, steps_in, task_in}
 use Rattle.session_making.specs.Texts.{bad_byte}
-use Rattle.session_making.specs.declared.bundles.Entry.{Entry}
+use Rattle.tool_bundles.specs.declared.bundles.Entry.{Entry}
 use Rattle.session_making.specs.declared.items.Item.{Item}
 use Rattle.session_making.specs.declared.items.Item.TheVariants.{Task, Program, File, Text, Key}
 use Rattle.session_making.specs.declared.requests.Kind.{Kind}

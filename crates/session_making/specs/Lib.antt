@@ -1,7 +1,5 @@
 pub mod Bare
-pub mod Bundles
 pub mod Ends
-pub mod Entries
 pub mod Items
 pub mod Laws
 pub mod Makings

@@ -6,10 +6,10 @@ use Rattle.module_text.specs.TextReader.Steps.{◌>>=◌}
 use Rattle.ram_disc.specs.Name.{is_name}
 use Rattle.friendly_assembly.specs.PlainText.{has_open_line}
 use Rattle.session_making.specs.Modules.{file_bytes}
-use Rattle.session_making.specs.Notes.{clash_notes, note, start_note}
-use Rattle.session_making.specs.Programs.{add_program, check_count, file_named, with_file}
+use Rattle.session_making.specs.Notes.{clash_notes, note, short_note, start_note}
+use Rattle.session_making.specs.Programs.{add_program, check_count, file_name, file_named, with_file}
 use Rattle.session_making.specs.Texts.{bad_place, first_spot}
-use Rattle.session_making.specs.declared.bundles.Entry.{Entry}
+use Rattle.tool_bundles.specs.declared.bundles.Entry.{Entry}
 use Rattle.session_making.specs.declared.items.Item.{Item}
 use Rattle.session_making.specs.declared.items.Item.TheVariants.{Task, Program as ProgramItem, File, Text, Key}
 use Rattle.session_making.specs.declared.makings.Frame.{Frame}
@@ -136,11 +136,15 @@ add_task frame making item id priority stack files = do
 
 -- ---- programs
 
+-- a program's name may be a front of that of its first file
+abbrev pub note_name : Making → Program → List Entry → Making
+note_name making program files = with_notes making (short_note program.name (file_name files))
+
 -- what is to be known of a program
 abbrev pub note_program : Making → Program → List Entry → Making
 note_program making program files =
-    if program.begins then note_clashes making files else
-    with_notes (note_clashes making files) (start_note (codes "program") program.name files)
+    let noted = note_clashes (note_name making program files) files in
+    if program.begins then noted else with_notes noted (start_note (codes "program") program.name files)
 
 -- a program of the shell
 abbrev pub add_program_item : Making → ℕ → List Entry → Result Making Wrong

@@ -9,9 +9,9 @@ use Rattle.module_text.specs.TextReader.Refusal.{Refusal}
 use Rattle.module_text.specs.TextReader.Steps.{◌>>=◌}
 use Rattle.module_text.specs.declared.modules.Module.{Module}
 use Rattle.tool_texts.specs.Told.{Told}
-use Rattle.session_making.specs.declared.bundles.Content.{Content}
-use Rattle.session_making.specs.declared.bundles.Content.TheVariants.{Nothing, Unread, Bytes}
-use Rattle.session_making.specs.declared.bundles.Entry.{Entry}
+use Rattle.tool_bundles.specs.declared.bundles.Content.{Content}
+use Rattle.tool_bundles.specs.declared.bundles.Content.TheVariants.{Nothing, Unread, Bytes}
+use Rattle.tool_bundles.specs.declared.bundles.Entry.{Entry}
 use Rattle.session_making.specs.declared.wrongs.Wrong.{Wrong}
 use Rattle.session_making.specs.declared.wrongs.Wrong.TheVariants.{NoFile, NoModule, Program}
 

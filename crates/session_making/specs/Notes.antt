@@ -3,7 +3,7 @@ use Rattle.std.specs.Prelude.{ℕ, ◌==◌, ◌&&◌, not, if◌then◌else◌,
 use Rattle.std.specs.List.{ends_with, find, flat_map, list_any}
 use Rattle.std.specs.Str.{bytes_eq}
 use Rattle.byte_streams.specs.Pieces.{joined}
-use Rattle.session_making.specs.declared.bundles.Entry.{Entry}
+use Rattle.tool_bundles.specs.declared.bundles.Entry.{Entry}
 use Rattle.session_making.specs.declared.notes.Clash.{Clash}
 use Rattle.session_making.specs.declared.notes.Clashes.{Clashes}
 use Rattle.session_making.specs.declared.notes.Setter.{Setter}
@@ -28,6 +28,12 @@ globals_note path =
 -- no task is in the session of guests
 abbrev pub idle_note : List ℕ
 idle_note = joined (note ∷ codes "no task is in this session, so nothing will run; an item begins with task\n" ∷ [])
+
+-- a program's name is not the whole name of its first file
+abbrev pub short_note : List ℕ → List ℕ → List ℕ
+short_note name whole =
+    if bytes_eq name whole then [] else
+    joined (note ∷ codes "the name " ∷ whole ∷ codes " has more than 12 letters, so the program is called " ∷ name ∷ codes "\n" ∷ [])
 
 -- a file does not set global 1, where a task or a program begins
 abbrev pub no_start_note : List ℕ → List ℕ → List ℕ

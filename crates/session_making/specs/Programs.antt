@@ -10,7 +10,7 @@ use Rattle.module_text.specs.TextReader.Steps.{◌>>=◌}
 use Rattle.ram_disc.specs.Name.{is_name}
 use Rattle.session_making.specs.Modules.{file_module}
 use Rattle.session_making.specs.Tables.{hunk_numbers}
-use Rattle.session_making.specs.declared.bundles.Entry.{Entry}
+use Rattle.tool_bundles.specs.declared.bundles.Entry.{Entry}
 use Rattle.session_making.specs.declared.makings.Making.{Making}
 use Rattle.session_making.specs.declared.programs.MadeFile.{MadeFile}
 use Rattle.session_making.specs.declared.programs.Program.{Program}
@@ -35,14 +35,18 @@ plain_name name =
     unwrap_or (without_end (codes ".asm") name)
     (unwrap_or (without_end (codes ".s") name) (unwrap_or (without_end (codes ".module") name) name))
 
--- the name of a program: that of its first file
-abbrev pub program_name : List Entry → List ℕ
-program_name [] = []
-program_name (file ∷ files) = plain_name (base_name file.word file.word)
+-- the name of the first of some files, without the end of a program's file
+abbrev pub file_name : List Entry → List ℕ
+file_name [] = []
+file_name (file ∷ files) = plain_name (base_name file.word file.word)
 
--- these bytes, where they are a name
-abbrev pub name_of : List ℕ → Result (List ℕ) Wrong
-name_of word = if is_name word then Ok word else Err (ProgramName word)
+-- the name of a program: that of its first file, or as much of it as a name may have
+abbrev pub program_name : List Entry → List ℕ
+program_name files = take 12 (file_name files)
+
+-- a program has this name, which is that of its first file or the front of it
+abbrev pub name_of : List ℕ → List ℕ → Result (List ℕ) Wrong
+name_of whole name = if is_name name then Ok name else Err (ProgramName whole)
 
 -- the paths of files, with a blank between each two
 abbrev pub joined_paths : List Entry → List ℕ
@@ -114,5 +118,5 @@ program_by None making item word name_is files = do
 -- the program of files, which is added once
 abbrev pub add_program : Making → ℕ → List Entry → Result (Making × Program) Wrong
 add_program making item files = do
-  name ← name_of (program_name files)
+  name ← name_of (file_name files) (program_name files)
   program_by (file_named making.files name) making item (program_name files) name files

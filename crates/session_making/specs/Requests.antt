@@ -5,7 +5,7 @@ use Rattle.std.specs.Str.{bytes_eq}
 use Rattle.module_text.specs.TextReader.Steps.{◌>>=◌}
 use Rattle.kernel_model.specs.KernelRecord.Ranges.{most_words}
 use Rattle.session_making.specs.Numbers.{period_in, steps_in, store_in, version_in}
-use Rattle.session_making.specs.declared.bundles.Entry.{Entry}
+use Rattle.tool_bundles.specs.declared.bundles.Entry.{Entry}
 use Rattle.session_making.specs.declared.requests.Kind.{Kind}
 use Rattle.session_making.specs.declared.requests.Kind.TheVariants.{Bare, Guests, Shell}
 use Rattle.session_making.specs.declared.requests.Request.{Request}

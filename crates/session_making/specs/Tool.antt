@@ -1,9 +1,10 @@
 -- What the tool gives of a bundle.
 use Rattle.std.specs.Prelude.{ℕ, ◌+◌, ◌-◌, nat_lt, if◌then◌else◌, Bool, true, false, List, [], ◌∷◌, ◌++◌, length, Result, Ok, Err}
+use Rattle.std.specs.Option.{ok_or}
 use Rattle.module_text.specs.TextReader.Steps.{◌>>=◌}
 use Rattle.tool_texts.specs.Told.{Told}
 use Rattle.session_making.specs.Bare.{add_programs, no_code}
-use Rattle.session_making.specs.Bundles.{bundle_of}
+use Rattle.tool_bundles.specs.Bundles.{bundle_of}
 use Rattle.session_making.specs.Items.{item_of}
 use Rattle.session_making.specs.Makings.{add_item, new_making}
 use Rattle.session_making.specs.Notes.{idle_note}
@@ -12,7 +13,7 @@ use Rattle.session_making.specs.Requests.{request_of}
 use Rattle.session_making.specs.Sessions.{bare_session, kernel_session, session_text}
 use Rattle.session_making.specs.Stops.{at_place, refusal}
 use Rattle.session_making.specs.declared.bare.BareCode.{BareCode}
-use Rattle.session_making.specs.declared.bundles.Entry.{Entry}
+use Rattle.tool_bundles.specs.declared.bundles.Entry.{Entry}
 use Rattle.session_making.specs.declared.makings.Frame.{Frame}
 use Rattle.session_making.specs.declared.makings.Making.{Making}
 use Rattle.session_making.specs.declared.requests.Kind.{Kind}
@@ -24,7 +25,7 @@ use Rattle.session_making.specs.declared.stops.Refusal.{Refusal}
 use Rattle.session_making.specs.declared.makings.Typed.{Typed}
 use Rattle.session_making.specs.declared.tool.At.{At}
 use Rattle.session_making.specs.declared.wrongs.Wrong.{Wrong}
-use Rattle.session_making.specs.declared.wrongs.Wrong.TheVariants.{NotRead}
+use Rattle.session_making.specs.declared.wrongs.Wrong.TheVariants.{NoBundle, NotRead}
 use Rattle.session_text.specs.SessionOfText.{session_of}
 use Rattle.session_text.specs.declared.sessions.Session.{Session}
 use Rattle.module_text.specs.TextReader.Refusal.{Refusal as TextRefusal}
@@ -151,7 +152,7 @@ entries_text entries = do
 -- the text that a bundle asks for
 abbrev pub bundle_text : List ℕ → Result (List ℕ) Refusal
 bundle_text bundle = do
-  entries ← at_place InRequest (bundle_of bundle)
+  entries ← at_place InRequest (ok_or (bundle_of bundle) NoBundle)
   entries_text entries
 
 -- what is wrong at a place

@@ -3,7 +3,6 @@ ghost use Rattle.std.specs.Prelude.{◌≡◌, ◌++◌, [], ◌<◌, ◌≤◌,
 ghost use Rattle.session_making.specs.Bare.{add_code, add_program, add_programs, no_code, note_globals, one_hunk};
 ghost use Rattle.session_making.specs.Ends.{Gives};
 
-use crate::bundles::Entry;
 use crate::ends::Hindered;
 use crate::lists::Listed;
 use crate::modules::file_module;
@@ -12,6 +11,7 @@ use crate::tables::{global_numbers, hunk_code};
 use crate::wrongs::Wrong;
 use module_text::Hunk;
 use std::alloc::{AllocError, Global};
+use tool_bundles::Entry;
 use tool_texts::Lent;
 
 /// The word of the store at which the code of a bare machine begins.

@@ -3,12 +3,12 @@ ghost use Rattle.std.specs.Prelude.{◌≡◌, ◌∷◌, [], ◌≤◌, ◌<◌
 ghost use Rattle.session_making.specs.Ends.{Gives};
 ghost use Rattle.session_making.specs.Items.{after_files, byte_in, check_files, file_item, is_program, item_of, key_byte, key_item, own_count, own_files, priority_of, program_files, program_item, stack_of, step_of, task_item, task_number, task_word, text_flaw, text_item, two_words};
 
-use crate::bundles::{Entries, Entry};
 use crate::ends::Hindered;
 use crate::numbers::{highest_task, priority_in, stack_in, steps_in, task_in};
 use crate::requests::Kind;
 use crate::texts::bad_byte;
 use crate::wrongs::Wrong;
+use tool_bundles::{Entries, Entry};
 use tool_texts::Lent;
 
 /// What is put into a machine with a kernel.

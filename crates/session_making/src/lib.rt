@@ -2,7 +2,6 @@
 #![tactic(auto)]
 
 pub mod bare;
-pub mod bundles;
 pub mod ends;
 pub mod items;
 pub mod laws;
@@ -15,7 +14,6 @@ pub mod programs;
 pub mod refusals;
 pub mod requests;
 pub mod sessions;
-mod sinks;
 pub mod stops;
 pub mod tables;
 pub mod texts;

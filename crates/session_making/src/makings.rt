@@ -3,16 +3,15 @@ ghost use Rattle.std.specs.Prelude.{◌≡◌, ◌+◌, ◌∷◌, [], ◌++◌,
 ghost use Rattle.std.specs.Option.{option_copied};
 ghost use Rattle.session_making.specs.Ends.{Gives};
 ghost use Rattle.friendly_assembly.specs.PlainText.{has_open_line};
-ghost use Rattle.session_making.specs.Makings.{add_each, add_file, add_item, add_program_item, add_programs, add_task, check_bytes, check_files, check_free, check_name, check_number, check_priority, is_reserved, new_making, note_clashes, note_program, note_task, open_note, task_of, task_with, whole_text};
+ghost use Rattle.session_making.specs.Makings.{add_each, add_file, add_item, add_program_item, add_programs, add_task, check_bytes, check_files, check_free, check_name, check_number, check_priority, is_reserved, new_making, note_clashes, note_name, note_program, note_task, open_note, task_of, task_with, whole_text};
 
-use crate::bundles::{Entries, Entry};
 use crate::ends::Hindered;
 use crate::items::Item;
 use crate::lists::Listed;
 use crate::modules::file_bytes;
-use crate::notes::{Clash, NOTE, clash_notes, start_note};
+use crate::notes::{Clash, NOTE, clash_notes, short_note, start_note};
 use crate::programs::{
-    MadeFile, Program, Source, add_program, check_count, file_named, lawful_name,
+    MadeFile, Program, Source, add_program, check_count, file_name, file_named, lawful_name,
 };
 use crate::requests::Kind;
 use crate::texts::bad_place;
@@ -22,6 +21,7 @@ use ram_disc::Name;
 use session_text::{Bytes, Names};
 use std::alloc::{AllocError, Global};
 use std::slice::from_ref;
+use tool_bundles::{Entries, Entry};
 use tool_texts::Said::{Bytes as Said, Number};
 use tool_texts::{Lent, push_sentence};
 
@@ -353,11 +353,25 @@ fn note_program<'a>(
 ) -> Result<(), AllocError>
     ensures { OnOk result (making.new ≡ note_program making.old program.now files.now) }
 {
+    note_name(alloc, making, program, files)?;
     note_clashes(alloc, making, files)?;
     if program.begins {
         return Ok(());
     }
     let note = start_note(alloc, b"program", program.name.bytes(), files)?;
+    making.notes.append(note)
+}
+
+// Notes that a program's name is a front of that of its first file, where it is so.
+fn note_name<'a>(
+    alloc: Global,
+    making: &mut Making<'a>,
+    program: &Program,
+    files: &'a [Entry<'a>],
+) -> Result<(), AllocError>
+    ensures { OnOk result (making.new ≡ note_name making.old program.now files.now) }
+{
+    let note = short_note(alloc, program.name.bytes(), file_name(files))?;
     making.notes.append(note)
 }
 

@@ -4,9 +4,7 @@ ghost use Rattle.module_text.specs.Canonical.{IsPrintable, printed};
 ghost use Rattle.session_making.specs.Ends.{Gives};
 ghost use Rattle.session_making.specs.Modules.{assembled_text, file_bytes, file_module, module_text, plain_text, read_module};
 
-use crate::bundles::{Content, Entry};
 use crate::ends::Hindered;
-use crate::sinks::TextSink;
 use crate::wrongs::Wrong;
 use assembly::assembly_text::assemble;
 use assembly_errors::assembly_errors;
@@ -14,6 +12,8 @@ use friendly_assembly::friendly_text;
 use module_text::{Module, TextEnd, print_module};
 use session_text::Bytes;
 use std::alloc::{AllocError, Global};
+use text_sinks::TextSink;
+use tool_bundles::{Content, Entry};
 use tool_texts::Lent;
 
 /// A text of so many bytes, or more, is not read: it gets no memory.

@@ -3,12 +3,12 @@ ghost use Rattle.std.specs.Prelude.{◌≡◌, ◌++◌, ◌∷◌, [], None, If
 ghost use Rattle.std.specs.List.{flat_map, list_any};
 ghost use Rattle.std.specs.Option.{option_copied};
 ghost use Rattle.std.specs.Str.{bytes_eq};
-ghost use Rattle.session_making.specs.Notes.{add_clash, are_same, are_several, clash_note, clash_notes, clashes_after, file_clashes, globals_in, globals_note, idle_note, is_told, no_clashes, no_start_note, note_clash, notes_after, number_text, numbers_text, one_clash, set_by, setter_in, several_clashes, source_at, start_note};
+ghost use Rattle.session_making.specs.Notes.{add_clash, are_same, are_several, clash_note, clash_notes, clashes_after, file_clashes, globals_in, globals_note, idle_note, is_told, no_clashes, no_start_note, note_clash, notes_after, number_text, numbers_text, one_clash, set_by, setter_in, several_clashes, short_note, source_at, start_note};
 
-use crate::bundles::Entry;
 use crate::lists::Listed;
 use crate::programs::Source;
 use std::alloc::{AllocError, Global};
+use tool_bundles::Entry;
 use tool_texts::Said::{Bytes, Number};
 use tool_texts::{Lent, push_sentence};
 
@@ -55,6 +55,28 @@ pub fn idle_note(alloc: Global) -> Result<Vec<u8>, AllocError>
         &[
             Bytes(NOTE),
             Bytes(b"no task is in this session, so nothing will run; an item begins with task\n"),
+        ],
+    )?;
+    Ok(text)
+}
+
+/// A note that a program's name is not the whole name of its first file; nothing where it is.
+pub fn short_note<'t>(alloc: Global, name: &'t [u8], whole: &'t [u8]) -> Result<Vec<u8>, AllocError>
+    ensures { IfOk result (λ v. v.items ≡ short_note name.now whole.now) }
+{
+    let mut text = Vec::new(alloc);
+    if name == whole {
+        return Ok(text);
+    }
+    push_sentence(
+        &mut text,
+        &[
+            Bytes(NOTE),
+            Bytes(b"the name "),
+            Bytes(whole),
+            Bytes(b" has more than 12 letters, so the program is called "),
+            Bytes(name),
+            Bytes(b"\n"),
         ],
     )?;
     Ok(text)

@@ -1,13 +1,12 @@
 // The files of programs in a machine with a kernel.
-ghost use Rattle.std.specs.Prelude.{◌≡◌, ◌++◌, ◌∷◌, [], ◌≤◌, ◌<◌, Some, None, if◌then◌else◌, length, OnOk, IfOk, IfSome};
+ghost use Rattle.std.specs.Prelude.{◌≡◌, ◌++◌, ◌∷◌, [], ◌≤◌, ◌<◌, Some, None, if◌then◌else◌, length, take, OnOk, IfOk, IfSome};
 ghost use Rattle.std.specs.List.{AllByRecursion, flat_map};
 ghost use Rattle.std.specs.Option.{option_copied};
 ghost use Rattle.module_text.specs.Canonical.{IsPrintable, IsPrintableHunk, printed};
 ghost use Rattle.ram_disc.specs.Name.{is_name};
 ghost use Rattle.session_making.specs.Ends.{Gives};
-ghost use Rattle.session_making.specs.Programs.{add_program, base_name, check_count, file_named, joined, joined_paths, known_program, name_of, new_program, plain_name, program_name, without_end};
+ghost use Rattle.session_making.specs.Programs.{add_program, base_name, check_count, file_name, file_named, joined, joined_paths, known_program, name_of, new_program, plain_name, program_name, without_end};
 
-use crate::bundles::Entry;
 use crate::ends::Hindered;
 use crate::lists::Listed;
 use crate::makings::Making;
@@ -18,10 +17,14 @@ use module_text::{Hunk, Hunks, Module, WordList};
 use ram_disc::Name;
 use session_text::Bytes;
 use std::alloc::{AllocError, Global};
+use tool_bundles::Entry;
 use tool_texts::Lent;
 
 /// The most files of a machine.
 const MOST_FILES: usize = 64;
+
+/// The most letters of a name.
+const MOST_LETTERS: usize = 12;
 
 /// A file of the machine.
 #[derive(Drop)]
@@ -66,7 +69,7 @@ pub fn add_program<'a>(
     ensures { Gives (λ p. (making.new, p)) result (add_program making.old item files.now) }
 {
     let word = program_name(files);
-    let name = name_of(word)?;
+    let name = name_of(file_name(files), word)?;
     let paths = joined_paths(alloc, files)?;
     if let Some(known) = file_named(making.files.as_slice(), name.bytes()) {
         return known_program(alloc, known, word, name, paths);
@@ -75,9 +78,27 @@ pub fn add_program<'a>(
     new_program(alloc, making, item, name, paths, files)
 }
 
-// The name of a program: that of its first file.
+// The name of a program: that of its first file, or as much of it as a name may have.
 fn program_name<'a>(files: &'a [Entry<'a>]) -> &'a [u8]
     ensures { result.now ≡ program_name files.now }
+{
+    first_letters(file_name(files))
+}
+
+// The first 12 letters of a name, or all where there are no more.
+#[tactic(auto, using(std::proofs::lemmas::List::take_all))]
+fn first_letters(name: &[u8]) -> &[u8]
+    ensures { result.now ≡ take 12 name.now }
+{
+    if name.len() > MOST_LETTERS {
+        return &name[..MOST_LETTERS];
+    }
+    name
+}
+
+/// The name of the first of some files, without the end of a program's file.
+pub fn file_name<'a>(files: &'a [Entry<'a>]) -> &'a [u8]
+    ensures { result.now ≡ file_name files.now }
 {
     match files.split_first() {
         Some((file, _)) => plain_name(base_name(file.word.bytes())),
@@ -116,13 +137,13 @@ fn base_name(path: &[u8]) -> &[u8]
     name
 }
 
-// The name of these bytes.
-fn name_of(word: &[u8]) -> Result<Name, Hindered<'_>>
-    ensures { Gives (λ n. n) result (name_of word.now) }
+// The name of a program, which is that of its first file or the front of it.
+fn name_of<'t>(whole: &'t [u8], name: &'t [u8]) -> Result<Name, Hindered<'t>>
+    ensures { Gives (λ n. n) result (name_of whole.now name.now) }
 {
-    match lawful_name(word) {
+    match lawful_name(name) {
         Some(name) => Ok(name),
-        None => Err(Hindered::Refused(Wrong::ProgramName(Lent::new(word)))),
+        None => Err(Hindered::Refused(Wrong::ProgramName(Lent::new(whole)))),
     }
 }
 

@@ -3,10 +3,10 @@ ghost use Rattle.std.specs.Prelude.{◌≡◌};
 ghost use Rattle.session_making.specs.Ends.{Gives};
 ghost use Rattle.session_making.specs.Requests.{kind_of, no_steps, period_of, request_of, split_word, steps_of, steps_word, store_of, version_of};
 
-use crate::bundles::{Entries, Entry};
 use crate::ends::Hindered;
 use crate::numbers::{most_words, period_in, steps_in, store_in, version_in};
 use crate::wrongs::Wrong;
+use tool_bundles::{Entries, Entry};
 use tool_texts::Lent;
 
 /// Which machine a session has.

@@ -7,10 +7,10 @@ ghost use Rattle.session_making.specs.Sessions.{bare_session, code_line, file_li
 use crate::makings::{MadeTask, Typed};
 use crate::programs::MadeFile;
 use crate::requests::{Kind, Request};
-use crate::sinks::TextSink;
 use crate::words::hex_digits;
 use session_text::{Bytes, Keys, LineForm, Lines, Session, SessionLine, print_session};
 use std::alloc::{AllocError, Global};
+use text_sinks::TextSink;
 use tool_texts::Said::{Bytes as Said, Number};
 use tool_texts::push_sentence;
 

@@ -6,7 +6,6 @@ ghost use Rattle.session_making.specs.Stops.{Stops};
 ghost use Rattle.session_making.specs.Tool.{bare_text, check_read, entries_text, item_place, kernel_text, last_notes, made_text, make_items, next_item, next_word, noted_text, one_item, refused, request_text, session_told};
 
 use crate::bare::bare_code;
-use crate::bundles::{Entry, read_bundle};
 use crate::ends::Hindered;
 use crate::items::item_of;
 use crate::lists::Listed;
@@ -20,6 +19,7 @@ use crate::wrongs::Wrong;
 use module_text::TextEnd;
 use session_text::{Session, read_session};
 use std::alloc::{AllocError, Global};
+use tool_bundles::{BundleEnd, Entry, read_bundle};
 use tool_texts::{Lent, ToolText};
 
 /// A text of so many bytes, or more, is not read: it gets no memory.
@@ -41,8 +41,8 @@ pub fn make_session(alloc: Global, bundle: &[u8]) -> Result<ToolText, AllocError
 {
     let entries = match read_bundle(alloc, bundle) {
         Ok(entries) => entries,
-        Err(Hindered::Refused(wrong)) => return refused(alloc, Place::Request, wrong),
-        Err(Hindered::WantMemory) => return Err(AllocError),
+        Err(BundleEnd::NoBundle) => return refused(alloc, Place::Request, Wrong::NoBundle),
+        Err(BundleEnd::WantMemory) => return Err(AllocError),
     };
     match entries_text(alloc, entries.as_slice()) {
         Ok(bytes) => Ok(ToolText {

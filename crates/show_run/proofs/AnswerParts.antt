@@ -13,6 +13,7 @@ use Rattle.show_run.specs.Leaves.{LeavesAsked}
 use Rattle.show_run.specs.ValueTries.TryWords.{Asked}
 use Rattle.show_run.specs.Words.{usage_text}
 use Rattle.show_run.specs.declared.commands.Show.{Show}
+use Rattle.show_run.specs.declared.tellings.Telling.{Telling}
 
 -- words that ask for nothing get the usage
 pub Answers-usage : {T E : Type 0} (asked : Option Show) (left h k : Option (List ℕ)) (written : Result T E) → asked ≡ None → Prints h k usage_text written → (input : List ℕ) × IsInput left input × Answered (IsShowAnswer asked input) h k (status_after written Usage)
@@ -21,9 +22,9 @@ Answers-usage asked left h k written is p =
     (x.0, x.1, rw is x.2)
 
 -- nothing was read where there was no memory for the values that are tried
-pub leaves-memory : (tries : Option Asked) (asked : Option Show) (left : Option (List ℕ)) → IsSome tries → LeavesAsked tries asked left left WantMemory
-leaves-memory None asked left is = absurd (false≢true is)
-leaves-memory (Some tries) asked left is = ([], omega arith, nothing left)
+pub leaves-memory : (tries : Option Asked) (telling : Option Telling) (asked : Option Show) (left : Option (List ℕ)) → IsSome tries → LeavesAsked tries telling asked left left WantMemory
+leaves-memory None telling asked left is = absurd (false≢true is)
+leaves-memory (Some tries) telling asked left is = ([], omega arith, nothing left)
   where
     nothing : (left : Option (List ℕ)) → Consumes left left []
     nothing None = tt

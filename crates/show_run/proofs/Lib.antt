@@ -6,3 +6,5 @@ pub mod AnswerParts
 pub mod FileLengths
 pub mod OneAnswer
 pub mod ValueTries
+pub mod LoadedHunks
+pub mod TypedWords

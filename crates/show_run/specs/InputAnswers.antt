@@ -5,10 +5,12 @@ use Rattle.program_answers.specs.Answer.{Answer}
 use Rattle.program_answers.specs.Input.{IsInputAnswer}
 use Rattle.program_answers.specs.declared.status.Status.TheVariants.{Usage}
 use Rattle.show_run.specs.ShownAnswers.{session_answer}
+use Rattle.show_run.specs.Tellings.{IsTold, telling_of}
 use Rattle.show_run.specs.ValueTries.TriesAnswers.{IsTried}
 use Rattle.show_run.specs.ValueTries.TryWords.{Asked, tries_of}
 use Rattle.show_run.specs.Words.{show_of, usage_text}
 use Rattle.show_run.specs.declared.commands.Show.{Show}
+use Rattle.show_run.specs.declared.tellings.Telling.{Telling}
 
 -- what is asked for is shown of the session that the text is
 abbrev pub IsShown : Show → List ℕ → Answer → Type 0
@@ -23,11 +25,16 @@ abbrev pub IsShowAnswer : Option Show → List ℕ → Answer → Type 0
 IsShowAnswer None input a = a ≡ usage_answer
 IsShowAnswer (Some asked) input a = IsInputAnswer (IsShown asked) input a
 
--- words that ask for tries of values get these, and other words what is shown
-abbrev pub IsAskedAnswer : Option Asked → Option Show → List ℕ → Answer → Type 0
-IsAskedAnswer None asked input a = IsShowAnswer asked input a
-IsAskedAnswer (Some tries) asked input a = IsInputAnswer (IsTried tries) input a
+-- words that ask for a bundle to be told get that, and other words what is shown
+abbrev pub IsTellingAnswer : Option Telling → Option Show → List ℕ → Answer → Type 0
+IsTellingAnswer None asked input a = IsShowAnswer asked input a
+IsTellingAnswer (Some telling) asked input a = IsInputAnswer (IsTold telling) input a
 
--- the answer to these words and this input, of which there is one at most
+-- words that ask for tries of values get these
+abbrev pub IsAskedAnswer : Option Asked → Option Telling → Option Show → List ℕ → Answer → Type 0
+IsAskedAnswer None telling asked input a = IsTellingAnswer telling asked input a
+IsAskedAnswer (Some tries) telling asked input a = IsInputAnswer (IsTried tries) input a
+
+-- an answer to these words and this input
 abbrev pub IsAnswer : List (List ℕ) → List ℕ → Answer → Type 0
-IsAnswer words input a = IsAskedAnswer (tries_of words) (show_of words) input a
+IsAnswer words input a = IsAskedAnswer (tries_of words) (telling_of words) (show_of words) input a

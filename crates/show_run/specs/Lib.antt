@@ -6,4 +6,7 @@ pub mod WordWrites
 pub mod ShownAnswers
 pub mod InputAnswers
 pub mod Leaves
+pub mod Tellings
 pub mod ValueTries
+pub mod Places
+pub mod TypedWords

@@ -67,8 +67,9 @@ pub(crate) fn gather_steps_writing<K: Sink>(
     Ok(())
 }
 
-// Takes a step, and gathers how it writes the word.
-fn gather_step_writing<K: Sink>(
+/// Takes a step of a machine that has not stopped, and gathers how it writes the word at an address. `SinkFault` comes only where the sink's
+/// count of faults rose; then a prefix of what was pending, and of the lines after it, has gone to the sink.
+pub(crate) fn gather_step_writing<K: Sink>(
     address: u32,
     machine: &mut Machine,
     out: &mut K,

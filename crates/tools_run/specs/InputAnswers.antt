@@ -16,6 +16,6 @@ abbrev pub IsAskedAnswer : Option Asked → List ℕ → Answer → Type 0
 IsAskedAnswer None input a = a ≡ usage_answer
 IsAskedAnswer (Some asked) input a = IsInputAnswer (IsToolAnswer asked) input a
 
--- the answer to these words and this input, of which there is one at most
+-- an answer to these words and this input
 abbrev pub IsAnswer : List (List ℕ) → List ℕ → Answer → Type 0
 IsAnswer words input a = IsAskedAnswer (asked_of words) input a

@@ -1,5 +1,5 @@
 -- The answer of a tool to a text.
-use Rattle.std.specs.Prelude.{ℕ, ◌≡◌, List, if◌then◌else◌}
+use Rattle.std.specs.Prelude.{ℕ, ◌≡◌, Bool, true, false, List, Option, Some, None}
 use Rattle.tool_texts.specs.Told.{Told}
 use Rattle.assembly_errors.specs.Reports.{assembly_errors}
 use Rattle.assembly_notes.specs.Notes.{assembly_notes}
@@ -7,23 +7,35 @@ use Rattle.assembly_places.specs.Places.{assembly_places}
 use Rattle.friendly_assembly.specs.PlainText.{friendly_told}
 use Rattle.program_answers.specs.Answer.{Answer}
 use Rattle.session_making.specs.Tool.{session_told}
-use Rattle.program_answers.specs.declared.status.Status.TheVariants.{Done, Refused}
+use Rattle.told_answers.specs.ToldAnswers.{IsToldBy}
 use Rattle.tools_run.specs.declared.commands.Asked.{Asked}
 use Rattle.tools_run.specs.declared.commands.Tool.{Tool}
-use Rattle.tools_run.specs.declared.commands.Tool.TheVariants.{Asm, AsmErrors, AsmNotes, AsmPlaces, Session}
+use Rattle.tools_run.specs.declared.commands.Tool.TheVariants.{Asm, AsmErrors, AsmNotes, AsmPlaces, Picture, Session}
 
--- what a tool gives of a text with this name
-abbrev pub told : Tool → List ℕ → List ℕ → Told
-told Asm name text = friendly_told name text
-told AsmErrors name text = assembly_errors name text
-told AsmNotes name text = assembly_notes name text
-told AsmPlaces name text = assembly_places name text
-told Session name text = session_told text
+-- what a tool gives of a text with this name, where a definition says it: a picture is drawn as it is
+abbrev pub told : Tool → List ℕ → List ℕ → Option Told
+told Asm name text = Some (friendly_told name text)
+told AsmErrors name text = Some (assembly_errors name text)
+told AsmNotes name text = Some (assembly_notes name text)
+told AsmPlaces name text = Some (assembly_places name text)
+told Session name text = Some (session_told text)
+told Picture name text = None
 
--- its answer: the text is refused where something is wrong in it, and the bytes say what
-abbrev pub told_answer : Told → Answer
-told_answer t = record { status = if t.is_wrong then Refused else Done; bytes = t.bytes }
+-- what is given is what the definition says, where there is one
+abbrev pub Tells : Option Told → Told → Type 0
+Tells (Some t) given = given ≡ t
+Tells None given = Unit {0}
 
--- the one answer of a tool to a text
+-- an answer of a tool to a text
 abbrev pub IsToolAnswer : Asked → List ℕ → Answer → Type 0
-IsToolAnswer asked text a = a ≡ told_answer (told asked.tool asked.name text)
+IsToolAnswer asked text a = IsToldBy (told asked.tool asked.name text) a
+
+-- whether a definition says what a tool gives
+abbrev pub is_defined : Tool → Bool
+is_defined Picture = false
+is_defined tool = true
+
+-- words ask for no tool, or for one whose definition says what it gives
+abbrev pub HasDefinition : Option Asked → Type 0
+HasDefinition None = Unit {0}
+HasDefinition (Some asked) = is_defined asked.tool ≡ true

@@ -1,21 +1,22 @@
 // The answer of a tool to a text.
-ghost use Rattle.std.specs.Prelude.{◌≡◌, ◌<◌, ◌^◌, length, IfOk};
-ghost use Rattle.program_answers.specs.Answer.{Answers};
+ghost use Rattle.std.specs.Prelude.{◌<◌, ◌^◌, length, IfOk};
 ghost use Rattle.program_answers.specs.Answered.{Answered};
 ghost use Rattle.program_answers.specs.Cause.{HasFaultCause};
 ghost use Rattle.program_answers.specs.Input.{IsTextEnd};
 ghost use Rattle.tool_texts.specs.Told.{told_of};
-ghost use Rattle.tools_run.specs.ToolAnswers.{IsToolAnswer, told, told_answer};
+ghost use Rattle.tools_run.specs.ToolAnswers.{IsToolAnswer, Tells, told};
 
 use crate::commands::{Asked, Tool};
 use assembly_errors::assembly_errors;
 use assembly_notes::assembly_notes;
 use assembly_places::assembly_places;
-use byte_streams::{Sink, write_text};
+use byte_streams::Sink;
 use friendly_assembly::friendly_text;
-use program_answers::{Status, TextAnswers, status_after};
+use program_answers::{Status, TextAnswers};
+use run_pictures::run_picture;
 use session_making::make_session;
 use std::alloc::{AllocError, Global};
+use told_answers::write_told;
 use tool_texts::ToolText;
 
 impl TextAnswers for Asked<'_> {
@@ -33,27 +34,16 @@ fn answer_text<K: Sink>(alloc: Global, asked: &Asked, text: &[u8], out: &mut K) 
     ensures ends { IsTextEnd result }
     ensures cause { HasFaultCause Status.WriteFault (K.faults out.old) (K.faults out.new) result }
 {
-    answer_by_tool(alloc, asked, text, out)
-}
-
-// The same, as the one answer that there is.
-fn answer_by_tool<K: Sink>(alloc: Global, asked: &Asked, text: &[u8], out: &mut K) -> Status
-    requires { length text.now < 2 ^ 30 }
-    ensures answer { Answers (told_answer (told asked.now.tool asked.now.name text.now))
-        (K.holds out.old) (K.holds out.new) result }
-    ensures ends { IsTextEnd result }
-    ensures cause { HasFaultCause Status.WriteFault (K.faults out.old) (K.faults out.new) result }
-{
     match tell(alloc, asked.tool, asked.name.bytes(), text) {
         Ok(told) => write_told(&told, out),
         Err(AllocError) => Status::WantMemory,
     }
 }
 
-// What the tool gives of a text with this name.
+// What the tool gives of a text with this name, which its definition says, where it has one.
 fn tell(alloc: Global, tool: Tool, name: &[u8], text: &[u8]) -> Result<ToolText, AllocError>
     requires { length text.now < 2 ^ 30 }
-    ensures { IfOk result (λ t. told_of t ≡ told tool name.now text.now) }
+    ensures { IfOk result (λ t. Tells (told tool name.now text.now) (told_of t)) }
 {
     match tool {
         Tool::Asm => friendly_text(alloc, name, text),
@@ -61,19 +51,6 @@ fn tell(alloc: Global, tool: Tool, name: &[u8], text: &[u8]) -> Result<ToolText,
         Tool::AsmNotes => assembly_notes(alloc, name, text),
         Tool::AsmPlaces => assembly_places(alloc, name, text),
         Tool::Session => make_session(alloc, text),
+        Tool::Picture => run_picture(alloc, text),
     }
-}
-
-// Writes what a tool gives.
-fn write_told<K: Sink>(told: &ToolText, out: &mut K) -> Status
-    ensures answer { Answers (told_answer (told_of told.now)) (K.holds out.old) (K.holds out.new) result }
-    ensures ends { IsTextEnd result }
-    ensures cause { HasFaultCause Status.WriteFault (K.faults out.old) (K.faults out.new) result }
-{
-    let status = if told.is_wrong {
-        Status::Refused
-    } else {
-        Status::Done
-    };
-    status_after(write_text(out, told.bytes.as_slice()), status)
 }

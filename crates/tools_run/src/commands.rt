@@ -17,6 +17,8 @@ pub enum Tool {
     AsmPlaces,
     /// The text of the session that a bundle asks for.
     Session,
+    /// The picture of the run that a log tells of.
+    Picture,
 }
 
 /// What is asked for: a tool, and how its input is called.
@@ -60,6 +62,7 @@ fn tool_named(word: &str) -> Option<Tool>
         "asm-notes" => Some(Tool::AsmNotes),
         "asm-places" => Some(Tool::AsmPlaces),
         "session" => Some(Tool::Session),
+        "picture" => Some(Tool::Picture),
         _ => None,
     }
 }

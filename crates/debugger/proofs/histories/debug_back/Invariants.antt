@@ -1,7 +1,7 @@
 use Rattle.std.proofs.Common.{◌≡◌, ◌≤◌, [], Some, length}
 use Rattle.module_text.specs.TextReader.Lines.{lines_of}
 use Rattle.debugger.specs.MachineHistory.Pasts.{now_of}
-use Rattle.debugger.specs.Private.Runs.{IsWithin}
+use Rattle.debugger.specs.Runs.{IsWithin}
 use Rattle.debugger.proofs.ReachedStates.{AreReached}
 use Rattle.debugger.proofs.ToldLines.{IsTold}
 use Rattle.debugger.proofs.histories.debug_back.Given as goal

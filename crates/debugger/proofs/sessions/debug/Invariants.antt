@@ -1,7 +1,7 @@
 use Rattle.std.proofs.Common.{◌≤◌, [], None, length}
 use Rattle.module_text.specs.TextReader.Lines.{lines_of}
 use Rattle.debugger.specs.Debugged.{HasDebugged, steps_left}
-use Rattle.debugger.specs.Private.Runs.{IsWithin}
+use Rattle.debugger.specs.Runs.{IsWithin}
 use Rattle.debugger.proofs.ToldLines.{IsTold}
 use Rattle.debugger.proofs.sessions.debug.Given as goal
 

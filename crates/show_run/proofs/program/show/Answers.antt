@@ -6,4 +6,4 @@ pub returns-in-Err-clause-answer : goal.returns-in-Err-clause-answer
 returns-in-Err-clause-answer g c = Answers-nothing _ _
 
 pub returns-in-Err-clause-source : goal.returns-in-Err-clause-source
-returns-in-Err-clause-source g c = leaves-memory _ _ _ c.in-Err.ensures.memory
+returns-in-Err-clause-source g c = leaves-memory _ _ _ _ c.in-Err.ensures.memory

@@ -1,0 +1,4 @@
+pub mod Addresses
+pub mod Answers
+pub mod Lines
+pub mod Loaded

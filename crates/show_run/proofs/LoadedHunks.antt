@@ -1,0 +1,2 @@
+pub mod BlockHunks
+pub mod MachineHunks

@@ -1,0 +1,2 @@
+pub mod SessionRuns
+pub mod ToldOrders

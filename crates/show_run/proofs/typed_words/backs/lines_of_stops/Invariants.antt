@@ -1,0 +1,5 @@
+use Rattle.std.proofs.Common.{length}
+use Rattle.show_run.proofs.typed_words.backs.lines_of_stops.Given as goal
+
+abbrev pub decreases-loop-line : goal.decreases-loop-line
+decreases-loop-line l = length l.rest

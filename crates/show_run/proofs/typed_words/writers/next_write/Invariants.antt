@@ -1,0 +1,5 @@
+use Rattle.show_run.specs.TypedWords.Runs.{IsRun}
+use Rattle.show_run.proofs.typed_words.writers.next_write.Given as goal
+
+abbrev pub invariant-loop-turn : goal.invariant-loop-turn
+invariant-loop-turn l = IsRun l.session l.machine.state

@@ -1,0 +1,2 @@
+pub mod Hunks
+pub mod Sessions

@@ -1,0 +1,7 @@
+// The log of a run in words.
+
+pub mod refusals;
+pub mod requests;
+pub mod runs;
+
+pub(crate) use runs::worded_log;

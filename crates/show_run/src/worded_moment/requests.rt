@@ -1,0 +1,58 @@
+// What is asked of a moment.
+use module_text::number;
+use tool_bundles::{Content, Entry};
+
+/// What is told.
+#[derive(Clone, Copy)]
+pub enum Asked {
+    /// The state.
+    State,
+    /// The lists.
+    Lists,
+}
+
+/// What is asked for.
+#[derive(Clone, Copy)]
+pub struct Request<'a> {
+    /// What the session is called.
+    pub name: &'a [u8],
+    /// The text of the session.
+    pub session: &'a [u8],
+    /// What is told.
+    pub asked: Asked,
+    /// After which step it is, if that is not the end of the run.
+    pub at: Option<u64>,
+}
+
+/// What the words of a bundle ask for; `None` where they are no request.
+pub fn request_of<'a>(entries: &[Entry<'a>]) -> Option<Request<'a>> {
+    let [session, asked, at] = entries else {
+        return None;
+    };
+    let Content::Bytes(bytes) = &session.content else {
+        return None;
+    };
+    Some(Request {
+        name: session.word.bytes(),
+        session: bytes.bytes(),
+        asked: asked_by(asked.word.bytes())?,
+        at: step_of(at.word.bytes())?,
+    })
+}
+
+// What a word asks for.
+fn asked_by(word: &[u8]) -> Option<Asked> {
+    match word {
+        b"state" => Some(Asked::State),
+        b"lists" => Some(Asked::Lists),
+        _ => None,
+    }
+}
+
+// The step that a word names: none where it is `-`; `None` where it is neither.
+fn step_of(word: &[u8]) -> Option<Option<u64>> {
+    if word == b"-".as_slice() {
+        return Some(None);
+    }
+    Some(Some(number(word)?))
+}
