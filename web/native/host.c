@@ -45,3 +45,13 @@ long rattle_env_at(size_t index, void *into, size_t most) {
     (void)index, (void)into, (void)most;
     return -1;
 }
+
+// The product of two numbers of 128 bits, which clang calls where one of two numbers of 64 bits may be too large.
+__int128 __multi3(__int128 first, __int128 second) {
+    unsigned long mask = 0xffffffff, a = first, b = second;
+    unsigned long low = (a & mask) * (b & mask), left = (a >> 32) * (b & mask), right = (a & mask) * (b >> 32);
+    unsigned long middle = (low >> 32) + (left & mask) + (right & mask);
+    unsigned long high = (a >> 32) * (b >> 32) + (left >> 32) + (right >> 32) + (middle >> 32);
+    high += (unsigned long)(first >> 64) * b + a * (unsigned long)(second >> 64);
+    return ((__int128)high << 64) | (middle << 32) | (low & mask);
+}

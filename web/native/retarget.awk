@@ -32,7 +32,7 @@ BEGIN {
     layout = "e-m:e-p:64:64-p10:8:8-p20:8:8-i64:64-i128:128-n32:64-S128-ni:1:10:20"
     attributes = "\"no-builtin-bcmp\" \"no-builtin-memcmp\" \"no-builtin-strlen\" \"target-cpu\"=\"lime1\""
     names_into(known, "rattle_alloc rattle_realloc rattle_dealloc rattle_arg rattle_env rattle_env_at rattle_errno rattle_set_errno lseek read write")
-    names_into(known, "llvm.memset.p0.i64 llvm.memmove.p0.p0.i64 llvm.trap llvm.cttz.i64 llvm.ctpop.i32")
+    names_into(known, "llvm.memset.p0.i64 llvm.memmove.p0.p0.i64 llvm.trap llvm.cttz.i32 llvm.cttz.i64 llvm.ctlz.i32 llvm.ctlz.i64 llvm.ctpop.i32 llvm.ctpop.i64")
     names_into(of_main, "__sysv_signal __write __x86_get_cpuid_feature_leaf")
 }
 
