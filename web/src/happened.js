@@ -5,7 +5,7 @@ import { after_pause, button, fill, labelled, make } from './elements.js';
 import { lines_of_log, log_of, without_steps } from './log.js';
 import { is_session, length_of, state_at, steps_of } from './moment.js';
 import { places_after } from './names.js';
-import { picture_file, picture_of, places_in } from './picture.js';
+import { picture_file, picture_of, spots_in } from './picture.js';
 import { line_at, loaded_programs, programs_of } from './places.js';
 import { file_named } from './project.js';
 import { ending_of } from './run.js';
@@ -171,7 +171,7 @@ export function happened_view() {
       const drawn = await drawing_now(() => picture_of(story.log,
         { first: first_row, count: MOST_ROWS, width: Math.max(400, drawing.clientWidth / SCALE) }));
       if (!drawn || state.story !== story) return;
-      places = places_in(drawn);
+      places = spots_in(drawn);
       fill(drawing, drawn);
       mark_cursor();
     } catch (error) {

@@ -20,7 +20,7 @@ async function drawn(input) {
 }
 
 /** Where the rows of a drawing are: from steps to `{top, height}`. */
-export function places_in(drawing) {
+export function spots_in(drawing) {
   return new Map([...drawing.querySelectorAll('.spot')].map((box) =>
     [Number(box.dataset.step), { top: Number(box.getAttribute('y')), height: Number(box.getAttribute('height')) }]));
 }
