@@ -3,12 +3,6 @@ import { files } from './files.js';
 
 const meanings = new Map();
 
-const EXPECTED_IN_SESSION = new Map([
-  ['1', 'A session has, in this order, TRIPOS, STORE, BARE or TICK, the lines of the machine, and GO; one blank is between two parts, and no line is empty.'],
-  ['2', 'The chapter The session text has the range of each number and name.'],
-  ['3', 'The last line is GO and the most steps.'],
-]);
-
 /** Reads the words; comes before all else. */
 export async function read_codes() {
   for (const line of ((await files()).get('bin/codes') ?? '').split('\n')) {
@@ -20,11 +14,6 @@ export async function read_codes() {
 /** What a code means, of a kind of bin/codes. */
 export function meaning(kind, code) {
   return meanings.get(`${kind} ${code}`) ?? `code ${code}`;
-}
-
-/** What was expected where the text of a session has this code. */
-export function expected_in_session(code) {
-  return EXPECTED_IN_SESSION.get(String(code)) ?? '';
 }
 
 /** The line and the code of `* refused: line L code C` and `* no boot: line L code C`, or null. */

@@ -1,6 +1,7 @@
 // The console: runs what the user has made, and shows what the program answers.
 import { ask, Stopped, stop_all } from './asking.js';
-import { closing_of, ending_in_words, expected_in_session, meaning, refusal_in } from './codes.js';
+import { file_word, word } from './bundle.js';
+import { closing_of, ending_in_words, meaning, refusal_in } from './codes.js';
 import { button, choice, fill, make } from './elements.js';
 import { state_at } from './moment.js';
 import { line_at, loaded_programs, programs_of } from './places.js';
@@ -8,6 +9,9 @@ import { cut_for_show, screen_text } from './screen.js';
 import { change, state, watch } from './state.js';
 import { duration, hex_rows, save_as } from './text.js';
 import { command_for, known_session, made_of, session_now } from './work.js';
+
+// the kind of the text that a command reads, for the tool that says what is wrong in it
+const KINDS = new Map([['run', 'session'], ['dump', 'session'], ['trace', 'session'], ['ring', 'ring']]);
 
 const COMMANDS = [['run', 'what it writes'], ['dump', 'and the words of the store'], ['trace', 'the events of the kernel']];
 
@@ -22,13 +26,19 @@ export async function run_now() {
     const command = command_for(text, state.command);
     change({ run: { ...state.run, is_running: true } });
     const { status, bytes, text: letters, milliseconds } = await ask('tripos', [command], text, 'the session runs');
-    const run = { input: text, command, status, bytes, letters, milliseconds };
+    const run = { input: text, command, status, bytes, letters, milliseconds, errors: await errors_of(text, command, letters) };
     change({ run });
     const place = await place_of_fault(text, letters);
     if (place && state.run === run) change({ run: { ...run, place } });
   } catch (error) {
     change({ run: { failed: error instanceof Stopped ? 'Stopped: the run was ended before its end, and nothing of it is kept.' : error.message } });
   }
+}
+
+/** What is wrong in a text that was refused, in words, each error with its line; or null where that is not known. */
+async function errors_of(text, command, letters) {
+  if (!refusal_in(letters) || !KINDS.has(command)) return null;
+  return (await ask('tripos_show', ['errors'], word(KINDS.get(command)) + file_word('', text), 'what is wrong is looked for')).text;
 }
 
 /** The line of the instruction that faulted, where the fault names a byte and the line is known; else null. */
@@ -41,15 +51,12 @@ async function place_of_fault(session, letters) {
 }
 
 /** How a run ended, in words, and whether that is a fault: `{words, is_bad, line}`. */
-export function ending_of({ failed, letters, status, command }) {
+export function ending_of({ failed, letters, status, command, errors }) {
   if (failed) return { words: failed, is_bad: true };
   const refused = refusal_in(letters);
   if (refused) {
-    const kind = refused.is_boot ? 'boot' : command === 'resume' ? 'resume' : command === 'ring' ? 'ring' : 'session';
-    return {
-      words: `${refused.is_boot ? 'The machine does not boot' : 'The text is refused'}: line ${refused.line}: ${meaning(kind, refused.code)} (code ${refused.code}).${kind === 'session' ? ` ${expected_in_session(refused.code)}` : ''}`,
-      is_bad: true, line: refused.line,
-    };
+    const why = errors?.split('\n')[0] ?? `line ${refused.line}: ${meaning(command, refused.code)} (code ${refused.code})`;
+    return { words: `${refused.is_boot ? 'The machine does not boot' : 'The text is refused'}: ${why}.`, is_bad: true, line: refused.line };
   }
   const closing = closing_of(letters);
   if (closing) return { words: ending_in_words(closing), is_bad: status === 10 };
@@ -115,6 +122,7 @@ export function run_pane({ show_line, show_place }) {
       fill(said, run.bytes.length > 4096 ? `The first 4,096 of ${run.bytes.length.toLocaleString('en')} bytes; Save has them all.` : '');
       return;
     }
+    if (run.errors) { fill(output, run.errors); fill(said); return; }
     const { shown, said: cut } = cut_for_show(run.letters, run.bytes.length);
     fill(output, ['run', 'resume', 'ring'].includes(run.command) ? screen_text(written_before_closing(shown)) : screen_text(shown));
     fill(said, cut);

@@ -229,6 +229,7 @@ const ways = {
     await open_example('recursion');
     const made = await session();
     await go('steps');
+    await tab.until("/After/.test(document.getElementById('said').textContent)");
     await tab.click('#typed-words summary');
     for (const word of ['s 5', 'r']) {
       await tab.click('#typed-word');
@@ -240,6 +241,17 @@ const ways = {
     const shown = await text_of('#typed-words-told');
     same('the words show what the debugger does', of_steps(shown), of_steps(answered('tripos', ['debug'], `${made}STEP 5\nREGS\n`)));
     same('they show the line of assembly', /^ {2}\S+\.asm:[0-9]+/m.test(shown), true);
+  },
+
+  async 'a session in error'() {
+    await open_example('hello');
+    const wrong = (await session()).replace(/^STORE /m, 'STOER ').replace(/^GO /m, 'GO 0x');
+    await set('#session', wrong);
+    await run_page();
+    const told = answered('tripos_show', ['errors'], `word 7\nsession\nfile 0 ${wrong.length}\n\n${wrong}\n`);
+    same('both lines are in error', [...told.matchAll(/^line [0-9]+: /gm)].length, 2);
+    same('the first error is said', (await text_of('#ending')).includes(`${told.split('\n')[0]}.`), true);
+    same('all errors are shown', await text_of('#console'), told);
   },
 
   async 'what happened'() {

@@ -10,3 +10,4 @@ pub mod Tellings
 pub mod ValueTries
 pub mod Places
 pub mod TypedWords
+pub mod RefusedTexts

@@ -10,6 +10,7 @@ mod no_machines;
 pub mod places;
 pub mod program;
 mod programs;
+pub mod refused_texts;
 mod single_steps;
 pub mod step_log;
 pub mod tellings;

@@ -1,11 +1,13 @@
 // What is told of a bundle, in words.
-ghost use Rattle.std.specs.Prelude.{◌≡◌, ◌<◌, ◌^◌, length, map, string_bytes};
+ghost use Rattle.std.specs.Prelude.{◌≡◌, ◌<◌, ◌^◌, length, map, string_bytes, IfOk};
 ghost use Rattle.program_answers.specs.Answered.{Answered};
 ghost use Rattle.program_answers.specs.Cause.{HasFaultCause};
 ghost use Rattle.program_answers.specs.Input.{IsTextEnd};
-ghost use Rattle.show_run.specs.Tellings.{IsTold, telling_named, telling_of};
+ghost use Rattle.tool_texts.specs.Told.{told_of};
+ghost use Rattle.show_run.specs.Tellings.{IsTold, Tells, telling_named, telling_of};
 
 use crate::places::places_text;
+use crate::refused_texts::errors_text;
 use crate::typed_words::debugged_words;
 use crate::worded_log::worded_log;
 use crate::worded_moment::worded_moment;
@@ -26,9 +28,11 @@ pub enum Telling {
     Events,
     /// The state of a machine at a moment, or its lists.
     Moment,
+    /// What is wrong in a text that the first program refuses.
+    Errors,
 }
 
-/// What the words ask for, or `None` exactly where they are not `places`, `words`, `events` or `moment` alone.
+/// What the words ask for, or `None` exactly where they are not `places`, `words`, `events`, `moment` or `errors` alone.
 pub fn telling_of(words: &[String]) -> Option<Telling>
     ensures { result ≡ telling_of (map string_bytes words.now) }
 {
@@ -46,6 +50,7 @@ fn telling_named(word: &str) -> Option<Telling>
         "words" => Some(Telling::Words),
         "events" => Some(Telling::Events),
         "moment" => Some(Telling::Moment),
+        "errors" => Some(Telling::Errors),
         _ => None,
     }
 }
@@ -71,13 +76,16 @@ fn answer_text<K: Sink>(alloc: Global, asked: Telling, text: &[u8], out: &mut K)
     }
 }
 
+// What is told of a bundle, which a definition describes, where it has one.
 fn tell(alloc: Global, asked: Telling, text: &[u8]) -> Result<ToolText, AllocError>
     requires { length text.now < 2 ^ 30 }
+    ensures { IfOk result (λ t. Tells asked text.now (told_of t)) }
 {
     match asked {
         Telling::Places => places_text(alloc, text),
         Telling::Words => debugged_words(alloc, text),
         Telling::Events => worded_log(alloc, text),
         Telling::Moment => worded_moment(alloc, text),
+        Telling::Errors => errors_text(alloc, text),
     }
 }
