@@ -1,0 +1,28 @@
+// The values that names have.
+ghost use Rattle.std.specs.Prelude.{◌≡◌, Some, OnOk};
+ghost use Rattle.std.specs.Map.{update};
+ghost use Rattle.std.specs.Option.{option_copied};
+ghost use Rattle.std.specs.Str.{bytes_eq};
+ghost use Rattle.lab_marks.specs.Known.{kept};
+
+use std::alloc::AllocError;
+use std::collections::BTreeMap;
+
+/// Values by their names.
+pub type Known<'a> = BTreeMap<&'a [u8], i64>;
+
+/// The value of this name; `None` exactly where it has none.
+pub fn value_named(known: &Known<'_>, name: &[u8]) -> Option<i64>
+    ensures { result ≡ kept known.now name.now }
+{
+    known.get(name).copied()
+}
+
+/// Gives a name a value, instead of the one that it may have.
+pub fn set<'a>(known: &mut Known<'a>, name: &'a [u8], value: i64) -> Result<(), AllocError>
+    ensures { let values = update bytes_eq (kept known.old) name.now (Some value) in
+        OnOk result (kept known.new ≡ values) }
+{
+    known.insert(name, value)?;
+    Ok(())
+}
