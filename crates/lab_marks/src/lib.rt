@@ -2,13 +2,26 @@
 #![tactic(auto)]
 
 pub mod arithmetic;
+pub mod checks;
+pub mod cuts;
+pub mod drafts;
 pub mod ends;
 pub mod expressions;
+pub mod files;
+pub mod fillings;
 pub mod known;
+pub mod lets;
 pub mod levels;
+pub mod marks;
+pub mod plans;
+pub mod requests;
+pub mod sessions;
+pub mod stops;
 pub mod tokens;
+pub mod tool;
 pub mod wrongs;
 
 pub use ends::Hindered;
 pub use expressions::value_of;
+pub use tool::marks_text;
 pub use wrongs::Wrong;
