@@ -1,2 +1,5 @@
+pub mod FilledTexts
 pub mod Places
 pub mod ReadTokens
+pub mod SaidExpressions
+pub mod ShortValues

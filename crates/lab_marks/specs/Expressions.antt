@@ -1,6 +1,5 @@
 -- What an expression is worth: a sum of products of factors, where a factor is a number, a name, or a sum in parentheses.
 use Rattle.std.specs.Prelude.{ℕ, ℤ, Bool, true, false, if◌then◌else◌, List, [], ◌∷◌, reverse, Option, Result, Ok, Err}
-use Rattle.std.specs.Option.{option_map_or}
 use Rattle.module_text.specs.TextReader.Steps.{◌>>=◌}
 use Rattle.lab_marks.specs.declared.expressions.Reading.{Reading as KeptReading}
 use Rattle.lab_marks.specs.declared.levels.Level.{Level}
@@ -8,8 +7,9 @@ use Rattle.lab_marks.specs.declared.tokens.Placed.{Placed}
 use Rattle.lab_marks.specs.declared.tokens.Token.{Token}
 use Rattle.lab_marks.specs.declared.tokens.Token.TheVariants.{Digits, Name, Open, Close, Sign, By}
 use Rattle.lab_marks.specs.declared.wrongs.Wrong.{Wrong}
-use Rattle.lab_marks.specs.declared.wrongs.Wrong.TheVariants.{NoExpression, NoName, NoOperand, OpenParenthesis}
+use Rattle.lab_marks.specs.declared.wrongs.Wrong.TheVariants.{NoExpression, NoOperand, OpenParenthesis}
 use Rattle.lab_marks.specs.Arithmetic.{number_worth}
+use Rattle.lab_marks.specs.Known.{name_worth}
 use Rattle.lab_marks.specs.Levels.{start, total, with_by, with_factor, with_sign}
 use Rattle.lab_marks.specs.Tokens.{tokens_of}
 
@@ -37,7 +37,9 @@ abbrev pub with_operand : (List ℕ → Option ℤ) → Level → List Level →
 with_operand known level outer rest (Digits digits) = do
   value ← number_worth digits
   with_value level outer value
-with_operand known level outer rest (Name name) = option_map_or (with_value level outer) (known name) (Err (NoName name))
+with_operand known level outer rest (Name name) = do
+  value ← name_worth known name
+  with_value level outer value
 with_operand known level outer rest Open = Ok (record { level = start; outer = level ∷ outer; due = true })
 with_operand known level outer rest _ = Err (NoOperand rest)
 

@@ -3,6 +3,7 @@ pub mod Cuts
 pub mod Ends
 pub mod Expressions
 pub mod Fillings
+pub mod Grammar
 pub mod Known
 pub mod Levels
 pub mod Tokens

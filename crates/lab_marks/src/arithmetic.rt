@@ -106,8 +106,8 @@ fn over<'a>(a: i64, b: i64) -> Result<i64, Wrong<'a>>
     }
 }
 
-// A value, where it is short enough.
-fn short<'a>(value: i64) -> Result<i64, Wrong<'a>>
+/// A value, where it is short enough.
+pub fn short<'a>(value: i64) -> Result<i64, Wrong<'a>>
     ensures { result ≡ short value }
 {
     if is_short(value) {

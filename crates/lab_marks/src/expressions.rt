@@ -7,7 +7,7 @@ ghost use Rattle.lab_marks.specs.Known.{kept};
 
 use crate::arithmetic::number_worth;
 use crate::ends::Hindered;
-use crate::known::{Known, value_named};
+use crate::known::{Known, name_worth};
 use crate::levels::{Level, start, total, with_by, with_factor, with_sign};
 use crate::tokens::{Placed, Token, next_token};
 use crate::wrongs::Wrong;
@@ -80,10 +80,10 @@ fn with_operand<'a>(
             let value = number_worth(digits.bytes())?;
             with_value(level, outer, value)
         }
-        Token::Name(name) => match value_named(known, name.bytes()) {
-            Some(value) => with_value(level, outer, value),
-            None => Err(Hindered::Refused(Wrong::NoName(name))),
-        },
+        Token::Name(name) => {
+            let value = name_worth(known, name)?;
+            with_value(level, outer, value)
+        }
         Token::Open => opened(level, outer),
         Token::Close | Token::Sign(_) | Token::By(_) | Token::Other => {
             Err(Hindered::Refused(Wrong::NoOperand(rest)))
@@ -92,11 +92,7 @@ fn with_operand<'a>(
 }
 
 // A factor of this value comes next.
-fn with_value<'a>(
-    level: Level,
-    outer: Vec<Level>,
-    value: i64,
-) -> Result<Reading, Hindered<'a>>
+fn with_value<'a>(level: Level, outer: Vec<Level>, value: i64) -> Result<Reading, Hindered<'a>>
     ensures { Gives reading_kept result
         (with_value level (reverse outer.items) value) }
 {
@@ -154,11 +150,7 @@ fn with_operator<'a>(
 }
 
 // A `)` comes: the sum before it is a factor of the one around it.
-fn closed<'a>(
-    text: &'a [u8],
-    level: Level,
-    outer: Vec<Level>,
-) -> Result<Reading, Hindered<'a>>
+fn closed<'a>(text: &'a [u8], level: Level, outer: Vec<Level>) -> Result<Reading, Hindered<'a>>
     ensures { Gives reading_kept result
         (closed text.now level (reverse outer.items)) }
 {

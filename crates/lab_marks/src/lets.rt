@@ -61,12 +61,7 @@ pub fn obey_let<'a>(
 }
 
 // The name, its value and a text.
-fn told_text(
-    alloc: Global,
-    name: &[u8],
-    value: i64,
-    text: &[u8],
-) -> Result<Vec<u8>, AllocError> {
+fn told_text(alloc: Global, name: &[u8], value: i64, text: &[u8]) -> Result<Vec<u8>, AllocError> {
     let mut told = Vec::new(alloc);
     push_sentence(&mut told, &[Bytes(name), Bytes(b" = ")])?;
     push_number(&mut told, value)?;

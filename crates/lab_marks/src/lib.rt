@@ -10,6 +10,7 @@ pub mod expressions;
 pub mod files;
 pub mod fillings;
 pub mod known;
+pub mod laws;
 pub mod lets;
 pub mod levels;
 pub mod marks;
@@ -23,5 +24,6 @@ pub mod wrongs;
 
 pub use ends::Hindered;
 pub use expressions::value_of;
+pub use laws::{expression_law, grouping_law};
 pub use tool::marks_text;
 pub use wrongs::Wrong;

@@ -92,7 +92,13 @@ fn obey<'a>(alloc: Global, draft: &mut Draft<'a>, line: &'a [u8]) -> Result<(), 
         Some((b'|', text)) => obey_line(alloc, draft, true, text),
         Some((b'>', text)) => obey_line(alloc, draft, false, text),
         _ => match next_field(line) {
-            Some((kind, rest)) => obey_kind(alloc, draft, kind, first_field(rest), after_word(line)),
+            Some((kind, rest)) => obey_kind(
+                alloc,
+                draft,
+                kind,
+                first_field(rest),
+                after_word(line),
+            ),
             None => Ok(()),
         },
     }

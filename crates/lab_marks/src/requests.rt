@@ -20,9 +20,13 @@ pub struct NamedFile<'a> {
 #[derive(Drop)]
 pub enum Asked<'a> {
     /// What is told of the lab with this name.
-    Told { lab: Lent<'a> },
+    Told {
+        lab: Lent<'a>,
+    },
     /// The plan by which it is graded.
-    Plan { handed: u64 },
+    Plan {
+        handed: u64,
+    },
     /// A file of the lab with its values. The braces of its comments stay, or go.
     File {
         handed: u64,
