@@ -6,4 +6,5 @@ pub mod Fillings
 pub mod Grammar
 pub mod Known
 pub mod Levels
+pub mod Plans
 pub mod Tokens

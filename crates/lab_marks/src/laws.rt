@@ -6,11 +6,13 @@ ghost use Rattle.lab_marks.specs.Grammar.{AsSum, Expression, Enclosed, Number, S
 ghost use Rattle.lab_marks.specs.Arithmetic.{number_worth};
 ghost use Rattle.lab_marks.specs.Tokens.{tokens_of};
 
-/// A text whose tokens say an expression is worth what the expression is worth, or has the same thing wrong in it. So a number is
-/// worth itself, and an expression in parentheses is worth what it is worth without them.
+/// A text whose tokens say an expression is worth what the expression is worth, or has the same thing wrong in it. And only such a
+/// text is worth something. So a number is worth itself, and an expression in parentheses is worth what it is worth without them.
 pub fn expression_law()
     ensures said { (known : List ℕ → Option ℤ) (text : List ℕ) (e : Expression) →
         Say AsSum e (tokens_of text) → value_of known text ≡ worth known e }
+    ensures converse { (known : List ℕ → Option ℤ) (text : List ℕ) (v : ℤ) →
+        value_of known text ≡ Ok v → (e : Expression) × Say AsSum e (tokens_of text) }
     ensures number { (known : List ℕ → Option ℤ) (text digits : List ℕ) →
         Say AsSum (Number digits) (tokens_of text) → value_of known text ≡ number_worth digits }
     ensures enclosed { (known : List ℕ → Option ℤ) (text other : List ℕ) (e : Expression) →
