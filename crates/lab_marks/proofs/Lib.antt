@@ -1,5 +1,6 @@
 pub mod FilledTexts
 pub mod Places
+pub mod PrintedBytes
 pub mod ReadExpressions
 pub mod ReadTokens
 pub mod SaidExpressions

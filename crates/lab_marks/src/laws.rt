@@ -1,9 +1,11 @@
 // Laws of what expressions are worth. The functions do nothing: their contracts are the laws.
-ghost use Rattle.std.specs.Prelude.{◌≡◌, ℕ, ℤ, pos, negsuc, List, codes, Option, Ok, Err};
+ghost use Rattle.std.specs.Prelude.{◌≡◌, ◌<◌, ◌^◌, ℕ, ℤ, pos, negsuc, List, codes, Option, Ok, Err};
+ghost use Rattle.std.specs.List.{All, flat_map};
 ghost use Rattle.lab_marks.specs.declared.wrongs.Wrong.TheVariants.{DivisionByZero, OpenParenthesis};
 ghost use Rattle.lab_marks.specs.Expressions.{value_of};
 ghost use Rattle.lab_marks.specs.Grammar.{AsSum, Expression, Enclosed, Number, Say, worth};
 ghost use Rattle.lab_marks.specs.Arithmetic.{number_worth};
+ghost use Rattle.lab_marks.specs.Plans.{AsIs, printed, shown};
 ghost use Rattle.lab_marks.specs.Tokens.{tokens_of};
 
 /// A text whose tokens say an expression is worth what the expression is worth, or has the same thing wrong in it. And only such a
@@ -31,4 +33,9 @@ pub fn grouping_law()
     ensures remainder { (known : List ℕ → Option ℤ) → value_of known (codes "(0 - 7) % 4") ≡ Ok (negsuc 2) }
     ensures zero { (known : List ℕ → Option ℤ) → value_of known (codes "1 / (2 - 2)") ≡ Err DivisionByZero }
     ensures no_end { (known : List ℕ → Option ℤ) → value_of known (codes "(1 + 2") ≡ Err OpenParenthesis }
+{}
+
+/// `printf` makes the bytes of a line of the plan by its `%b`, whatever they are.
+pub fn plan_law()
+    ensures { (bytes : List ℕ) → All (λ byte. byte < 2 ^ 8) bytes → printed AsIs (flat_map shown bytes) ≡ bytes }
 {}

@@ -24,6 +24,6 @@ pub mod wrongs;
 
 pub use ends::Hindered;
 pub use expressions::value_of;
-pub use laws::{expression_law, grouping_law};
+pub use laws::{expression_law, grouping_law, plan_law};
 pub use tool::marks_text;
 pub use wrongs::Wrong;
