@@ -79,7 +79,7 @@ abbrev pub ended_sum : Level → List Level → Result ℤ Wrong
 ended_sum level [] = total level
 ended_sum level (around ∷ outer) = Err OpenParenthesis
 
--- what is worth what is read, where the text ends here
+-- what the text is worth that is read, where it ends here
 abbrev pub ended : Reading → Result ℤ Wrong
 ended reading = if reading.due then Err (NoOperand []) else ended_sum reading.level reading.outer
 

@@ -38,7 +38,7 @@ pub data Escape : Type 0 where
   -- so many octal digits come, after others with this value, and then the last one
   InDigits : ℕ → ℕ → Escape
 
--- What printf makes of a text by its %b, of the escapes `\n`, `\\` and `\0` with three octal digits
+-- what printf makes of a text by its %b, where its escapes are `\n`, `\\`, and `\0` with three octal digits
 abbrev pub printed : Escape → List ℕ → List ℕ
 printed escape [] = []
 printed AsIs (c ∷ cs) = if c == 92 then printed Begun cs else c ∷ printed AsIs cs

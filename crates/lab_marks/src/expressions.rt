@@ -179,7 +179,7 @@ fn unended<'a>(text: &'a [u8], outer: &[Level]) -> Wrong<'a>
     Wrong::OpenParenthesis
 }
 
-// What is worth what is read, where the text ends here.
+// What the text is worth that is read, where it ends here.
 fn ended<'a>(reading: Reading) -> Result<i64, Hindered<'a>>
     ensures { Gives (λ value. value) result (ended (reading_kept reading)) }
 {

@@ -20,19 +20,22 @@ pub struct NamedFile<'a> {
 #[derive(Drop)]
 pub enum Asked<'a> {
     /// What is told of the lab with this name.
-    Told {
-        lab: Lent<'a>,
-    },
-    /// The plan by which it is graded.
-    Plan {
-        handed: u64,
-    },
-    /// A file of the lab with its values. The braces of its comments stay, or go.
-    File {
-        handed: u64,
-        keeps_braces: bool,
-        file: NamedFile<'a>,
-    },
+    Told(Lent<'a>),
+    /// The plan by which it is graded, with the number made of what is handed in.
+    Plan(i64),
+    /// A file of the lab with its values.
+    File(AskedFile<'a>),
+}
+
+/// A file of the lab that is asked for with its values.
+#[derive(Drop)]
+pub struct AskedFile<'a> {
+    /// The number made of what is handed in.
+    pub handed: i64,
+    /// Whether the expressions in its comments keep their braces.
+    pub keeps_braces: bool,
+    /// The file.
+    pub file: NamedFile<'a>,
 }
 
 /// What a bundle asks for.
@@ -43,7 +46,7 @@ pub struct Request<'a> {
     /// The student's number, as it is written.
     pub number: Lent<'a>,
     /// What that is worth.
-    pub worth: u64,
+    pub worth: i64,
     /// The marks.
     pub marks: NamedFile<'a>,
 }
@@ -66,12 +69,8 @@ pub fn request_of<'a>(entries: &'a [Entry<'a>]) -> Option<Request<'a>> {
 // What the first word asks for, with the third one and the words after the marks.
 fn asked_of<'a>(kind: &[u8], third: &Entry<'a>, files: &[Entry<'a>]) -> Option<Asked<'a>> {
     match (kind, files) {
-        (b"told", []) => Some(Asked::Told {
-            lab: third.word.again(),
-        }),
-        (b"plan", []) => Some(Asked::Plan {
-            handed: number(third.word.bytes())?,
-        }),
+        (b"told", []) => Some(Asked::Told(third.word.again())),
+        (b"plan", []) => Some(Asked::Plan(handed_number(third.word.bytes())?)),
         (b"filled", [file]) => file_asked(false, third, file),
         (b"kept", [file]) => file_asked(true, third, file),
         _ => None,
@@ -79,19 +78,24 @@ fn asked_of<'a>(kind: &[u8], third: &Entry<'a>, files: &[Entry<'a>]) -> Option<A
 }
 
 fn file_asked<'a>(keeps_braces: bool, third: &Entry<'a>, file: &Entry<'a>) -> Option<Asked<'a>> {
-    Some(Asked::File {
-        handed: number(third.word.bytes())?,
+    Some(Asked::File(AskedFile {
+        handed: handed_number(third.word.bytes())?,
         keeps_braces,
         file: named_file(file)?,
-    })
+    }))
 }
 
 // The number that 1 to 8 digits are.
-fn short_number(digits: &[u8]) -> Option<u64> {
+fn short_number(digits: &[u8]) -> Option<i64> {
     if digits.len() > MOST_DIGITS {
         return None;
     }
-    number(digits)
+    handed_number(digits)
+}
+
+// The number that 1 to 10 digits are.
+fn handed_number(digits: &[u8]) -> Option<i64> {
+    i64::try_from(number(digits)?).ok()
 }
 
 // The file that a word names.

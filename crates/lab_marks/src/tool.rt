@@ -52,34 +52,30 @@ fn answer<'a>(alloc: Global, request: &Request<'a>) -> Result<Vec<u8>, Stop<'a>>
     let path = request.marks.path.bytes();
     let marks = request.marks.bytes.bytes();
     match &request.asked {
-        Asked::Told { lab } => {
+        Asked::Told(lab) => {
             let known = first_values(alloc, request.worth, 0)?;
             let draft = read_marks(alloc, known, path, marks)?;
             Ok(told_text(alloc, lab.bytes(), request.number.bytes(), &draft)?)
         }
-        Asked::Plan { handed } => {
+        Asked::Plan(handed) => {
             let known = first_values(alloc, request.worth, *handed)?;
             let draft = read_marks(alloc, known, path, marks)?;
             Ok(plan_text(alloc, draft)?)
         }
-        Asked::File {
-            handed,
-            keeps_braces,
-            file,
-        } => {
-            let known = first_values(alloc, request.worth, *handed)?;
+        Asked::File(asked) => {
+            let known = first_values(alloc, request.worth, asked.handed)?;
             let known = read_lets(alloc, known, path, marks)?;
-            let (path, bytes) = (file.path.bytes(), file.bytes.bytes());
-            file_with_values(alloc, &known, *keeps_braces, path, bytes)
+            let (path, bytes) = (asked.file.path.bytes(), asked.file.bytes.bytes());
+            file_with_values(alloc, &known, asked.keeps_braces, path, bytes)
         }
     }
 }
 
 // The values of `n` and `handed`.
-fn first_values<'a>(alloc: Global, number: u64, handed: u64) -> Result<Known<'a>, AllocError> {
+fn first_values<'a>(alloc: Global, number: i64, handed: i64) -> Result<Known<'a>, AllocError> {
     let mut known = BTreeMap::new(alloc);
-    set(&mut known, b"n", i64::try_from(number).unwrap_or(0))?;
-    set(&mut known, b"handed", i64::try_from(handed).unwrap_or(0))?;
+    set(&mut known, b"n", number)?;
+    set(&mut known, b"handed", handed)?;
     Ok(known)
 }
 
