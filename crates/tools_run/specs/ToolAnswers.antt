@@ -10,9 +10,9 @@ use Rattle.session_making.specs.Tool.{session_told}
 use Rattle.told_answers.specs.ToldAnswers.{IsToldBy}
 use Rattle.tools_run.specs.declared.commands.Asked.{Asked}
 use Rattle.tools_run.specs.declared.commands.Tool.{Tool}
-use Rattle.tools_run.specs.declared.commands.Tool.TheVariants.{Asm, AsmErrors, AsmNotes, AsmPlaces, Picture, Session}
+use Rattle.tools_run.specs.declared.commands.Tool.TheVariants.{Asm, AsmErrors, AsmNotes, AsmPlaces, Marks, Picture, Session}
 
--- what a tool gives of a text with this name, where a definition says it: a picture is drawn as it is
+-- what a tool gives of a text with this name, where a definition says it: a picture is drawn as it is, and marks are told as they are
 abbrev pub told : Tool → List ℕ → List ℕ → Option Told
 told Asm name text = Some (friendly_told name text)
 told AsmErrors name text = Some (assembly_errors name text)
@@ -20,6 +20,7 @@ told AsmNotes name text = Some (assembly_notes name text)
 told AsmPlaces name text = Some (assembly_places name text)
 told Session name text = Some (session_told text)
 told Picture name text = None
+told Marks name text = None
 
 -- what is given is what the definition says, where there is one
 abbrev pub Tells : Option Told → Told → Type 0
@@ -33,6 +34,7 @@ IsToolAnswer asked text a = IsToldBy (told asked.tool asked.name text) a
 -- whether a definition says what a tool gives
 abbrev pub is_defined : Tool → Bool
 is_defined Picture = false
+is_defined Marks = false
 is_defined tool = true
 
 -- words ask for no tool, or for one whose definition says what it gives

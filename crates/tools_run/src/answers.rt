@@ -12,6 +12,7 @@ use assembly_notes::assembly_notes;
 use assembly_places::assembly_places;
 use byte_streams::Sink;
 use friendly_assembly::friendly_text;
+use lab_marks::marks_text;
 use program_answers::{Status, TextAnswers};
 use run_pictures::run_picture;
 use session_making::make_session;
@@ -52,5 +53,6 @@ fn tell(alloc: Global, tool: Tool, name: &[u8], text: &[u8]) -> Result<ToolText,
         Tool::AsmPlaces => assembly_places(alloc, name, text),
         Tool::Session => make_session(alloc, text),
         Tool::Picture => run_picture(alloc, text),
+        Tool::Marks => marks_text(alloc, text),
     }
 }

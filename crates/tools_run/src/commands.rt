@@ -19,6 +19,8 @@ pub enum Tool {
     Session,
     /// The picture of the run that a log tells of.
     Picture,
+    /// The marks of a lab by the values of a number, or a file with these values, as a bundle asks for them.
+    Marks,
 }
 
 /// What is asked for: a tool, and how its input is called.
@@ -63,6 +65,7 @@ fn tool_named(word: &str) -> Option<Tool>
         "asm-places" => Some(Tool::AsmPlaces),
         "session" => Some(Tool::Session),
         "picture" => Some(Tool::Picture),
+        "marks" => Some(Tool::Marks),
         _ => None,
     }
 }

@@ -1,0 +1,10 @@
+pub mod Arithmetic
+pub mod Cuts
+pub mod Ends
+pub mod Expressions
+pub mod Fillings
+pub mod Grammar
+pub mod Known
+pub mod Levels
+pub mod Plans
+pub mod Tokens
