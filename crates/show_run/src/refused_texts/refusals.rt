@@ -1,5 +1,5 @@
 // Where and why the first program refuses a text.
-ghost use Rattle.std.specs.Prelude.{◌≡◌, ◌<◌, ◌+◌, ◌^◌, drop, length, option_map, IfOk};
+ghost use Rattle.std.specs.Prelude.{◌≡◌, ◌<◌, ◌+◌, ◌^◌, length, option_map, IfOk};
 ghost use Rattle.std.specs.Result.{result_err};
 ghost use Rattle.module_text.specs.ModuleOfText.{module_of};
 ghost use Rattle.module_text.specs.TextReader.Lines.{lines_of};
@@ -13,6 +13,7 @@ ghost use Rattle.debugger.specs.OrderLines.{first_bad};
 ghost use Rattle.text_errors.specs.Telling.{refusal_of};
 ghost use Rattle.show_run.specs.RefusedTexts.Refusals.{debugging_refusal, lines_refusal, ring_refusal, session_refusal, text_refusal};
 
+use crate::places::sessions::text_behind;
 use debugger::{BadLine, check_lines};
 use machine_ring::{Ring, RingInput, read_ring};
 use module_text::{TextEnd, read_module};
@@ -68,7 +69,7 @@ fn debugging_refusal(alloc: Global, text: &[u8]) -> Result<Option<Refusal>, Allo
 {
     match read_front(alloc, text) {
         Ok(front) => {
-            let lines = &text[front.end as usize..];
+            let lines = text_behind(front.end as usize, text);
             lines_refusal(alloc, &front.session, front.lines + 1, lines)
         }
         Err(TextEnd::Bad { line, code }) => Ok(Some(Refusal { line, code })),
