@@ -35,12 +35,12 @@ take_session() { # SESSION
 }
 
 # Says on standard error what is wrong, by the answer of a tool in a file, and ends with the status that it has. Of a session that is refused, or
-# does not boot, ./tripos says it.
-refuse_answer() { # ANSWER NAME < SESSION
+# does not boot, ./tripos says it, by a command that reads as much of it as the tool: `debug`, or `state` where no lines may follow GO.
+refuse_answer() { # ANSWER NAME [COMMAND] < SESSION
     { read -r _ status; read -r closing; } < "$1"
     case $closing in
         '* '*)
-            said=$(INPUT_NAME=${INPUT_NAME:-$2} "$top/tripos" debug 2>&1 > /dev/null)
+            said=$(INPUT_NAME=${INPUT_NAME:-$2} "$top/tripos" "${3:-debug}" 2>&1 > /dev/null)
             printf '%s\n' "${said:-$closing}" >&2
             ;;
         *) sed 1d "$1" >&2 ;;

@@ -1,12 +1,14 @@
 -- Which lines are wanted.
-use Rattle.std.specs.Prelude.{ℕ, ◌==◌, ◌&&◌, ◌||◌, if◌then◌else◌, Bool, true, false, not, List, codes, Option, Some, None}
+use Rattle.std.specs.Prelude.{ℕ, ◌==◌, ◌&&◌, ◌||◌, if◌then◌else◌, Bool, true, false, not, Contains, IsTrue, List, codes, filter, Option, Some, None}
 use Rattle.std.specs.List.{list_any}
 use Rattle.std.specs.Str.{bytes_eq}
 use Rattle.session_text.specs.Statements.{fields}
 use Rattle.run_names.specs.declared.parties.Party.{Party}
 use Rattle.run_names.specs.declared.parties.Party.TheVariants.{Task}
+use Rattle.log_words.specs.declared.kinds.TheConstants.{KINDS}
 use Rattle.log_words.specs.declared.kinds.Kind.{Kind}
 use Rattle.log_words.specs.declared.kinds.Kind.TheVariants.{Call, Refused, Send, Return, Take, Dequeue, Run, Console, Key, Fault, Die, Step, Write, Tick, End}
+use Rattle.log_words.specs.declared.kinds.Wanted.{Wanted}
 
 -- the word of a kind
 abbrev pub kind_word : Kind → List ℕ
@@ -60,3 +62,15 @@ is_task id _ = false
 abbrev pub is_about : Option ℕ → ℕ → List Party → Bool
 is_about None task about = true
 is_about (Some id) task about = id == task || list_any (is_task id) about
+
+-- all kinds of which lines are wanted, by these words
+abbrev pub wanted_kinds : List ℕ → List Kind
+wanted_kinds words = filter (is_kind_wanted words) KINDS
+
+-- lines of the kind are wanted
+abbrev pub HasKind : Wanted → Kind → Type 0
+HasKind w kind = Contains w.kinds.items kind
+
+-- a line of the kind is wanted, in a step in which this task runs, that is about these besides
+abbrev pub HasLine : Wanted → Kind → ℕ → List Party → Type 0
+HasLine w kind task about = HasKind w kind × IsTrue (is_about w.task task about)

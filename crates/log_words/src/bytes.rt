@@ -1,4 +1,7 @@
 // Bytes and numbers as the log writes them.
+ghost use Rattle.std.specs.Prelude.{◌≡◌, ◌∷◌, []};
+ghost use Rattle.hex.specs.Hex.{encode_lower};
+
 use hex;
 use module_text::number;
 use std::alloc::AllocError;
@@ -16,7 +19,10 @@ pub fn push_shown_byte(text: &mut Vec<u8>, byte: u8) -> Result<(), AllocError> {
     }
 }
 
-fn hex_digits(byte: u8) -> [u8; 2] {
+/// The two hex digits of a byte, in lower case.
+pub fn hex_digits(byte: u8) -> [u8; 2]
+    ensures { result ≡ encode_lower (byte ∷ []) }
+{
     let mut digits = [0u8; 2];
     hex::encode_to_slice([byte], &mut digits).unwrap();
     digits

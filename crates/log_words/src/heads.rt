@@ -1,15 +1,13 @@
 // The head of the log: which steps it tells, and the tasks before the first.
 use crate::tellers::Teller;
-use kernel_lists::{FIRST_GUEST, RootField, TcbField, field, root};
+use kernel_lists::{FIRST_GUEST, TcbField, field};
 use kernel_model::numbers::{INTERRUPTED, RUNS, WAITS};
 use kernel_model::{field_of_state, is_held_state};
+use run_names::task_blocks;
 use std::alloc::AllocError;
 use tool_texts::Said::{Bytes, Number};
 use tool_texts::push_sentence;
 use word_store::Store;
-
-/// The most tasks that are told.
-const MOST_TASKS: u32 = 100;
 
 impl Teller<'_> {
     /// Adds a line for each task before the first step that is told. Those that began before are named by the words of their modules.
@@ -22,16 +20,12 @@ impl Teller<'_> {
         if self.is_bare {
             return Ok(());
         }
-        let mut t = root(store, RootField::FirstTask);
-        for _ in 0..MOST_TASKS {
-            if t == 0 {
-                return Ok(());
-            }
+        let blocks = task_blocks(self.alloc, store)?;
+        for t in blocks.as_slice() {
             if first > 1 {
-                self.name_before(store, t)?;
+                self.name_before(store, *t)?;
             }
-            self.push_task(text, store, t)?;
-            t = field(store, t, TcbField::Link);
+            self.push_task(text, store, *t)?;
         }
         Ok(())
     }

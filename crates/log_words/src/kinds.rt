@@ -1,8 +1,8 @@
 // The kinds of lines, and which lines are wanted.
-ghost use Rattle.std.specs.Prelude.{◌≡◌};
+ghost use Rattle.std.specs.Prelude.{◌≡◌, ◌↔◌, filter, IfOk, IsTrue};
 ghost use Rattle.std.specs.List.{list_any};
 ghost use Rattle.session_text.specs.Statements.{fields};
-ghost use Rattle.log_words.specs.Kinds.{is_about, is_kind_wanted, is_named, is_packets, is_quiet, is_task, kind_word};
+ghost use Rattle.log_words.specs.Kinds.{HasKind, HasLine, is_about, is_kind_wanted, is_named, is_packets, is_quiet, is_task, kind_word, wanted_kinds};
 
 use run_names::Party;
 use std::alloc::{AllocError, Global};
@@ -138,25 +138,40 @@ pub struct Wanted {
 
 impl Wanted {
     /// Lines about this task, if one is named, of the kinds that these words name.
-    pub fn new(alloc: Global, task: Option<u32>, words: &[u8]) -> Result<Wanted, AllocError> {
-        let mut kinds = Vec::new(alloc);
-        for kind in KINDS {
-            if is_kind_wanted(words, kind) {
-                kinds.push(kind)?;
-            }
-        }
+    pub fn new(alloc: Global, task: Option<u32>, words: &[u8]) -> Result<Wanted, AllocError>
+        ensures task { IfOk result (λ w. w.task ≡ task) }
+        ensures kinds { IfOk result (λ w. w.kinds.items ≡ wanted_kinds words.now) }
+    {
+        let kinds = wanted_of(alloc, &KINDS, words)?;
         Ok(Wanted { task, kinds })
     }
 
     /// Whether lines of the kind are wanted.
-    pub fn has_kind(&self, kind: Kind) -> bool {
+    pub fn has_kind(&self, kind: Kind) -> bool
+        ensures { IsTrue result ↔ HasKind self.now kind }
+    {
         self.kinds.contains(&kind)
     }
 
     /// Whether a line of the kind is wanted, in a step in which this task runs, that is about these besides.
-    pub fn has_line(&self, kind: Kind, task: u32, about: &[Party]) -> bool {
+    pub fn has_line(&self, kind: Kind, task: u32, about: &[Party]) -> bool
+        ensures { IsTrue result ↔ HasLine self.now kind task about.now }
+    {
         self.has_kind(kind) && is_about(self.task, task, about)
     }
+}
+
+// Those of the kinds of which lines are wanted.
+fn wanted_of(alloc: Global, kinds: &[Kind], words: &[u8]) -> Result<Vec<Kind>, AllocError>
+    ensures { IfOk result (λ v. v.items ≡ filter (is_kind_wanted words.now) kinds.now) }
+{
+    let mut wanted = Vec::new(alloc);
+    for kind in kinds {
+        if is_kind_wanted(words, *kind) {
+            wanted.push(*kind)?;
+        }
+    }
+    Ok(wanted)
 }
 
 /// Whether a line is about the task that is asked for, or any is: it runs in the step, or is one of these.

@@ -3,8 +3,8 @@ use crate::bytes::{push_shown_byte, push_signed};
 use crate::kinds::Kind;
 use crate::step_texts::{Moment, PacketWords};
 use crate::tellers::Teller;
-use kernel_model::numbers::{CONSOLE, FAULT_PACKET, FIRST, KIND, REPORTER, RES1, RES2};
-use run_names::{Party, push_party, refusal_meaning, request_name};
+use kernel_model::numbers::{FAULT_PACKET, FIRST, KIND, REPORTER, RES1, RES2};
+use run_names::{Party, holder, push_party, refusal_meaning, request_name};
 use std::alloc::AllocError;
 use tool_texts::Said::{Bytes, Number};
 use tool_texts::push_sentence;
@@ -44,11 +44,9 @@ impl Teller<'_> {
         told: PacketWords,
     ) -> Result<(), AllocError> {
         let Accepted { packet, from, to } = accepted;
-        if self.out.is_back(to, packet, from) {
-            self.out.forget(packet);
+        if self.out.accept(to, packet, from)? {
             return self.tell_back(moment, accepted, told);
         }
-        self.out.send(to, packet, from)?;
         self.tell_sent(moment, accepted, told)
     }
 
@@ -84,11 +82,7 @@ impl Teller<'_> {
         told: PacketWords,
     ) -> Result<(), AllocError> {
         let Accepted { packet, from, to } = accepted;
-        let holder = if to == Party::ConsoleReads {
-            Party::Task(CONSOLE)
-        } else {
-            to
-        };
+        let holder = holder(to);
         if !self.wants(Kind::Send, moment, &[holder, from]) {
             return Ok(());
         }

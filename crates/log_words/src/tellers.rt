@@ -1,4 +1,7 @@
 // What tells the steps of a run: what is wanted, what is known, and the text so far.
+ghost use Rattle.std.specs.Prelude.{◌↔◌, IsTrue};
+ghost use Rattle.log_words.specs.Kinds.{HasLine};
+
 use crate::kinds::{Kind, Wanted};
 use crate::step_texts::Moment;
 use crate::tasks::KnownTasks;
@@ -118,7 +121,9 @@ impl<'a> Teller<'a> {
     }
 
     /// Whether a line of the kind is wanted, that is about these besides the task of the step.
-    pub fn wants(&self, kind: Kind, moment: Moment, about: &[Party]) -> bool {
+    pub fn wants(&self, kind: Kind, moment: Moment, about: &[Party]) -> bool
+        ensures { IsTrue result ↔ HasLine self.now.wanted kind moment.task about.now }
+    {
         self.wanted.has_line(kind, moment.task, about)
     }
 }

@@ -1,8 +1,9 @@
 -- What is said of places.
-use Rattle.std.specs.Prelude.{ℕ, ◌-◌, ◌^◌, ◌==◌, true, false, if◌then◌else◌, List, [], ◌∷◌, ◌++◌, length, codes, decimal, Option, Some, None}
+use Rattle.std.specs.Prelude.{ℕ, ◌-◌, ◌^◌, ◌==◌, Bool, true, false, if◌then◌else◌, List, [], ◌∷◌, ◌++◌, length, codes, decimal, Option, Some, None}
 use Rattle.std.specs.List.{flat_map}
 use Rattle.byte_streams.specs.Pieces.{joined}
 use Rattle.module_text.specs.TextReader.Numbers.{any_number_of}
+use Rattle.tool_bundles.specs.declared.bundles.Entry.{Entry}
 use Rattle.tool_texts.specs.Told.{Told}
 use Rattle.program_places.specs.Addresses.{addresses_of}
 use Rattle.program_places.specs.Lines.{line_in}
@@ -10,6 +11,7 @@ use Rattle.program_places.specs.declared.lines.LabelFound.{LabelFound}
 use Rattle.program_places.specs.declared.lines.LineFound.{LineFound}
 use Rattle.program_places.specs.declared.loaded.LoadedHunk.{LoadedHunk}
 use Rattle.program_places.specs.declared.maps.ProgramMap.{ProgramMap}
+use Rattle.program_places.specs.declared.requests.Request.{Request}
 
 -- ---- a line in words
 
@@ -75,3 +77,29 @@ abbrev pub told_text : List ℕ → List ℕ → Told
 told_text absent found =
     if length absent == 0 then record { is_wrong = false; bytes = found } else
     record { is_wrong = true; bytes = joined (codes "* 1\n" ∷ absent ∷ found ∷ []) }
+
+-- what comes before each line of the answer to a place: nothing, where that is alone
+abbrev pub front_of : Bool → List ℕ → List ℕ
+front_of is_alone place = if is_alone then [] else place
+
+-- the answer to a place, which may be alone
+abbrev pub place_answer : ProgramMap → List LoadedHunk → Bool → List ℕ → List ℕ
+place_answer map loaded is_alone place = answer_of map loaded (front_of is_alone place) place
+
+-- those of these places that are in no program
+abbrev pub absent_places : List ℕ → ProgramMap → List LoadedHunk → Bool → List Entry → List ℕ
+absent_places path map loaded is_alone entries =
+    flat_map (λ entry. absent_text path entry.word (place_answer map loaded is_alone entry.word)) entries
+
+-- the answers to these places
+abbrev pub found_places : ProgramMap → List LoadedHunk → Bool → List Entry → List ℕ
+found_places map loaded is_alone entries = flat_map (λ entry. place_answer map loaded is_alone entry.word) entries
+
+-- what the tool gives of these places, of which one may be alone
+abbrev pub answer_to : List ℕ → ProgramMap → List LoadedHunk → Bool → List Entry → Told
+answer_to path map loaded is_alone entries =
+    told_text (absent_places path map loaded is_alone entries) (found_places map loaded is_alone entries)
+
+-- what the tool gives of the places that are asked for
+abbrev pub answer_places : Request → ProgramMap → List LoadedHunk → Told
+answer_places request map loaded = answer_to request.map_path map loaded (length request.places == 1) request.places

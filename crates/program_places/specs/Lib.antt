@@ -2,3 +2,4 @@ pub mod Addresses
 pub mod Answers
 pub mod Lines
 pub mod Loaded
+pub mod Refusals

@@ -2,7 +2,7 @@
 ghost use Rattle.std.specs.Prelude.{◌≡◌, ◌++◌, IfOk, OnOk};
 ghost use Rattle.std.specs.List.{flat_map};
 ghost use Rattle.tool_texts.specs.Told.{told_of};
-ghost use Rattle.program_places.specs.Answers.{absent_text, address_text, answer_of, front_text, line_text, lines_text, told_text};
+ghost use Rattle.program_places.specs.Answers.{absent_text, address_text, answer_of, answer_places, answer_to, front_of, front_text, line_text, lines_text, told_text};
 
 use crate::addresses::addresses_of;
 use crate::lines::{LineFound, line_in, push_place};
@@ -11,6 +11,7 @@ use crate::maps::ProgramMap;
 use crate::requests::Request;
 use module_text::any_number;
 use std::alloc::{AllocError, Global};
+use tool_bundles::Entry;
 use tool_texts::Said::{Bytes, Number};
 use tool_texts::{ToolText, push_sentence};
 
@@ -21,12 +22,28 @@ pub fn answer_places(
     request: &Request,
     map: &ProgramMap,
     loaded: &[LoadedHunk],
-) -> Result<ToolText, AllocError> {
+) -> Result<ToolText, AllocError>
+    ensures { IfOk result (λ t. told_of t ≡ answer_places request.now map.now loaded.now) }
+{
+    let path = request.map_path.bytes();
+    let places = request.places.as_slice();
+    answer_to(alloc, path, map, loaded, places.len() == 1, places)
+}
+
+// The answers to these places, of which one may be alone.
+fn answer_to(
+    alloc: Global,
+    path: &[u8],
+    map: &ProgramMap,
+    loaded: &[LoadedHunk],
+    is_alone: bool,
+    places: &[Entry],
+) -> Result<ToolText, AllocError>
+    ensures { IfOk result (λ t. told_of t ≡ answer_to path.now map.now loaded.now is_alone places.now) }
+{
     let mut absent = Vec::new(alloc);
     let mut found = Vec::new(alloc);
-    let path = request.map_path.bytes();
-    let is_alone = request.places.as_slice().len() == 1;
-    for entry in request.places.as_slice() {
+    for entry in places {
         let place = entry.word.bytes();
         let answer = answer_of(alloc, map, loaded, front_of(is_alone, place), place)?;
         push_absent(&mut absent, path, place, answer.as_slice())?;
@@ -36,7 +53,9 @@ pub fn answer_places(
 }
 
 // What comes before each line of the answer to a place: nothing, where that is alone.
-fn front_of(is_alone: bool, place: &[u8]) -> &[u8] {
+fn front_of(is_alone: bool, place: &[u8]) -> &[u8]
+    ensures { result.now ≡ front_of is_alone place.now }
+{
     if is_alone { b"" } else { place }
 }
 

@@ -1,6 +1,8 @@
 // What a map says.
+ghost use Rattle.std.specs.Prelude.{◌≡◌, []};
 
 use crate::lists::Listed;
+use std::alloc::Global;
 use tool_texts::Lent;
 
 /// The map of a session: where the lines of its programs are.
@@ -10,6 +12,19 @@ pub struct ProgramMap<'a> {
     pub hunks: Listed<MappedHunk<'a>>,
     /// Where hunks are on a bare machine; there are none in the map of another one.
     pub placed: Listed<PlacedHunk<'a>>,
+}
+
+impl<'a> ProgramMap<'a> {
+    /// The map of no programs.
+    pub fn new(alloc: Global) -> ProgramMap<'a>
+        ensures hunks { result.hunks ≡ [] }
+        ensures placed { result.placed ≡ [] }
+    {
+        ProgramMap {
+            hunks: Listed::new(alloc),
+            placed: Listed::new(alloc),
+        }
+    }
 }
 
 /// A hunk of a program, and the lines that its bytes come from.

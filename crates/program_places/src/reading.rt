@@ -1,7 +1,8 @@
 // The text of a map, read.
-ghost use Rattle.std.specs.Prelude.{◌≡◌, ◌==◌, ◌<◌, ◌^◌, length, option_map};
+ghost use Rattle.std.specs.Prelude.{◌≡◌, ◌==◌, ◌<◌, ◌^◌, length, option_map, IfErr};
 ghost use Rattle.std.specs.List.{position};
 ghost use Rattle.session_text.specs.Statements.{split_at_blank};
+ghost use Rattle.program_places.specs.Refusals.{IsBadAt, IsRefusal, is_cut_off};
 
 use crate::lists::Listed;
 use crate::maps::{MappedHunk, MappedLine, PlacedHunk, ProgramMap};
@@ -34,16 +35,14 @@ pub struct Draft<'a> {
 
 /// What the text of a map says. Its lines are `program NAME FILE`, `hunk NAME WORD..`, `line NAME OFFSET LINE LABEL` and, of a bare machine,
 /// `at NAME BYTE`. After `program` comes `hunk` with the same name, and after that the lines with it. A line that is not so is refused:
-/// code 1 where it has no such form or another name, 2 where a number is out of its range, 3 where the text ends without a LF.
-/// `WantMemory` comes only where memory could not be had.
+/// code 1 where it has no such form or another name, or where a program before it, or at the end the last one, has no `hunk`; 2 where a
+/// number is out of its range, 3 where the text ends without a LF. `WantMemory` comes only where memory could not be had.
 pub fn read_map<'a>(alloc: Global, text: &'a [u8]) -> Result<ProgramMap<'a>, TextEnd>
     requires { length text.now < 2 ^ 32 }
+    ensures { IfErr result (IsRefusal text.now) }
 {
     let mut draft = Draft {
-        map: ProgramMap {
-            hunks: Listed::new(alloc),
-            placed: Listed::new(alloc),
-        },
+        map: ProgramMap::new(alloc),
         last: None,
     };
     let mut line_number = 0;
@@ -59,21 +58,43 @@ pub fn read_map<'a>(alloc: Global, text: &'a [u8]) -> Result<ProgramMap<'a>, Tex
             code: CUT_OFF,
         });
     }
-    Ok(whole_map(draft)?)
+    whole_map(draft, line_number)
 }
 
 // Whether a text ends without a LF.
-fn is_cut_off(text: &[u8]) -> bool {
-    !text.is_empty() && !text.ends_with(b"\n")
+fn is_cut_off(text: &[u8]) -> bool
+    ensures { result ≡ is_cut_off text.now }
+{
+    match text.last() {
+        Some(byte) => *byte != b'\n',
+        None => false,
+    }
 }
 
-// The map with its last hunk.
-fn whole_map(draft: Draft<'_>) -> Result<ProgramMap<'_>, AllocError> {
+// The map with its last hunk. Line n is the one that comes next, or else the last.
+fn whole_map(draft: Draft<'_>, n: u32) -> Result<ProgramMap<'_>, TextEnd>
+    ensures { IfErr result (IsBadAt n) }
+{
     let Draft { map, last } = draft;
-    let mut map = map;
-    if let Some(hunk) = last {
-        map.hunks.push(hunk)?;
+    match last {
+        Some(hunk) => with_hunk(map, hunk, n),
+        None => Ok(map),
     }
+}
+
+// The map with one hunk more, which has to have its words.
+fn with_hunk<'a>(
+    map: ProgramMap<'a>,
+    hunk: MappedHunk<'a>,
+    n: u32,
+) -> Result<ProgramMap<'a>, TextEnd>
+    ensures { IfErr result (IsBadAt n) }
+{
+    if hunk.words.as_slice().is_empty() {
+        return Err(bad_line(n));
+    }
+    let mut map = map;
+    map.hunks.push(hunk)?;
     Ok(map)
 }
 
@@ -83,7 +104,9 @@ fn with_line<'a>(
     draft: Draft<'a>,
     n: u32,
     line: &'a [u8],
-) -> Result<Draft<'a>, TextEnd> {
+) -> Result<Draft<'a>, TextEnd>
+    ensures { IfErr result (IsBadAt n) }
+{
     if let Some(fields) = after_word(b"program ", line) {
         return with_program(alloc, draft, n, fields);
     }
@@ -99,14 +122,18 @@ fn with_line<'a>(
     Err(bad_line(n))
 }
 
-fn bad_line(n: u32) -> TextEnd {
+fn bad_line(n: u32) -> TextEnd
+    ensures { IsBadAt n result }
+{
     TextEnd::Bad {
         line: n,
         code: NO_LINE,
     }
 }
 
-fn bad_number(n: u32) -> TextEnd {
+fn bad_number(n: u32) -> TextEnd
+    ensures { IsBadAt n result }
+{
     TextEnd::Bad {
         line: n,
         code: BAD_NUMBER,
@@ -119,9 +146,11 @@ fn with_program<'a>(
     draft: Draft<'a>,
     n: u32,
     fields: &'a [u8],
-) -> Result<Draft<'a>, TextEnd> {
+) -> Result<Draft<'a>, TextEnd>
+    ensures { IfErr result (IsBadAt n) }
+{
     let (name, file) = split_field(fields).ok_or(bad_line(n))?;
-    let map = whole_map(draft)?;
+    let map = whole_map(draft, n)?;
     Ok(Draft {
         map,
         last: Some(MappedHunk {
@@ -139,7 +168,9 @@ fn with_words<'a>(
     draft: Draft<'a>,
     n: u32,
     fields: &'a [u8],
-) -> Result<Draft<'a>, TextEnd> {
+) -> Result<Draft<'a>, TextEnd>
+    ensures { IfErr result (IsBadAt n) }
+{
     let (name, words) = split_field(fields).ok_or(bad_line(n))?;
     let Draft { map, last } = draft;
     match last {
@@ -156,7 +187,9 @@ fn with_words<'a>(
 }
 
 // Words in hex, with a blank between two; `-` is one that is relocated.
-fn hunk_words(alloc: Global, n: u32, text: &[u8]) -> Result<Listed<Option<u32>>, TextEnd> {
+fn hunk_words(alloc: Global, n: u32, text: &[u8]) -> Result<Listed<Option<u32>>, TextEnd>
+    ensures { IfErr result (IsBadAt n) }
+{
     let mut words = Listed::new(alloc);
     for field in text.split(|c| *c == b' ') {
         words.push(hunk_word(field).ok_or(bad_line(n))?)?;
@@ -185,7 +218,9 @@ fn hex_word(digits: &[u8]) -> Option<u32> {
 }
 
 // A line of the hunk that is last, which has its words.
-fn with_mapped<'a>(draft: Draft<'a>, n: u32, fields: &'a [u8]) -> Result<Draft<'a>, TextEnd> {
+fn with_mapped<'a>(draft: Draft<'a>, n: u32, fields: &'a [u8]) -> Result<Draft<'a>, TextEnd>
+    ensures { IfErr result (IsBadAt n) }
+{
     let (name, fields) = split_field(fields).ok_or(bad_line(n))?;
     let line = mapped_line(n, fields)?;
     let Draft { map, last } = draft;
@@ -203,7 +238,9 @@ fn with_mapped<'a>(draft: Draft<'a>, n: u32, fields: &'a [u8]) -> Result<Draft<'
 }
 
 // An offset, the number of a line, and a label or `-`.
-fn mapped_line<'a>(n: u32, fields: &'a [u8]) -> Result<MappedLine<'a>, TextEnd> {
+fn mapped_line<'a>(n: u32, fields: &'a [u8]) -> Result<MappedLine<'a>, TextEnd>
+    ensures { IfErr result (IsBadAt n) }
+{
     let (offset, fields) = number_field(fields).ok_or(bad_line(n))?;
     let (number, label) = number_field(fields).ok_or(bad_line(n))?;
     let offset = u32::try_from(offset).ok().ok_or(bad_number(n))?;
@@ -222,7 +259,9 @@ fn label_of(field: &[u8]) -> Option<Lent<'_>> {
 }
 
 // Where a hunk is on a bare machine.
-fn with_placed<'a>(draft: Draft<'a>, n: u32, fields: &'a [u8]) -> Result<Draft<'a>, TextEnd> {
+fn with_placed<'a>(draft: Draft<'a>, n: u32, fields: &'a [u8]) -> Result<Draft<'a>, TextEnd>
+    ensures { IfErr result (IsBadAt n) }
+{
     let (name, digits) = split_field(fields).ok_or(bad_line(n))?;
     let byte = number(digits).ok_or(bad_line(n))?;
     let word = word_of_byte(byte).ok_or(bad_number(n))?;

@@ -34,8 +34,8 @@ impl FunctionName {
     }
 }
 
-/// The name of the function that the last of these words is in, where they begin with the hunk: that of the last mark at least three words
-/// before it. `None` exactly where there is no such mark.
+/// The name of the function that the last of these words is in, where they begin with the hunk: that of the last mark that has a name after it,
+/// at least three words before it. `None` exactly where there is no such mark.
 pub fn function_in(words: &[u32]) -> Option<FunctionName>
     ensures { result ≡ function_in words.now }
 {

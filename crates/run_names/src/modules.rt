@@ -10,6 +10,9 @@ use tool_texts::Said::Bytes;
 use tool_texts::push_sentence;
 use word_store::{Store, word, word_at};
 
+/// The most tasks that are looked at.
+const MOST_TASKS: u32 = 100;
+
 /// The most modules that are looked at.
 const MOST_MODULES: u32 = 1000;
 
@@ -54,6 +57,20 @@ fn program_name<'a>(programs: &'a [KnownProgram], store: &Store, m: u32) -> Opti
         }
     }
     None
+}
+
+/// The addresses of the blocks of the tasks, in the order of their chain, at most 100.
+pub fn task_blocks(alloc: Global, store: &Store) -> Result<Vec<u32>, AllocError> {
+    let mut blocks = Vec::new(alloc);
+    let mut t = root(store, RootField::FirstTask);
+    for _ in 0..MOST_TASKS {
+        if t == 0 {
+            break;
+        }
+        blocks.push(t)?;
+        t = field(store, t, TcbField::Link);
+    }
+    Ok(blocks)
 }
 
 /// The address of the block of a task, or 0 where no task has the number.

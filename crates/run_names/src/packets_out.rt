@@ -1,6 +1,6 @@
 // The packets that have not come back.
-ghost use Rattle.std.specs.Prelude.{◌≡◌, ◌==◌, ◌↔◌, ℕ, IsTrue, Some, None, OnOk, if◌then◌else◌};
-ghost use Rattle.run_names.specs.PacketsOut.{out_of};
+ghost use Rattle.std.specs.Prelude.{◌≡◌, ◌↔◌, ℕ, IsTrue, Some, None, IfOk, OnOk, if◌then◌else◌};
+ghost use Rattle.run_names.specs.PacketsOut.{holder, is_report, out_of, way_after_send, way_without};
 
 use crate::parties::Party;
 use kernel_lists::{EventLog, KernelEvent};
@@ -65,15 +65,17 @@ impl PacketsOut {
 
     /// A packet is not out any more.
     pub fn forget(&mut self, packet: u32)
-        ensures { (p : ℕ) → out_of self.new p ≡ (if p == packet then None else out_of self.old p) }
+        ensures { (p : ℕ) → out_of self.new p ≡ way_without self.old packet p }
     {
         self.ways.remove(&packet);
     }
 
     /// A packet is sent from one to another. The console's reads are the console's, and the packet with which faults are reported is
     /// nobody's.
-    pub fn send(&mut self, to: Party, packet: u32, from: Party) -> Result<(), AllocError> {
-        if packet == FAULT_PACKET && to == Party::Task(REPORTER) {
+    pub fn send(&mut self, to: Party, packet: u32, from: Party) -> Result<(), AllocError>
+        ensures { (p : ℕ) → OnOk result (out_of self.new p ≡ way_after_send self.old to packet from p) }
+    {
+        if is_report(to, packet) {
             return Ok(());
         }
         let to = holder(to);
@@ -81,18 +83,35 @@ impl PacketsOut {
         Ok(())
     }
 
-    /// A packet comes into a queue: it comes back, and is out no more, or it is sent.
-    pub fn accept(&mut self, to: Party, packet: u32, from: Party) -> Result<(), AllocError> {
+    /// A packet comes into a queue: it comes back, and is out no more, or it is sent. The answer is whether it comes back.
+    pub fn accept(&mut self, to: Party, packet: u32, from: Party) -> Result<bool, AllocError>
+        ensures back { IfOk result (λ is_back. IsTrue is_back ↔ (out_of self.old packet ≡ Some (record { to = from; from = to }))) }
+        ensures ways { (p : ℕ) → IfOk result (λ is_back. out_of self.new p
+            ≡ (if is_back then way_without self.old packet p else way_after_send self.old to packet from p)) }
+    {
         if self.is_back(to, packet, from) {
             self.forget(packet);
-            return Ok(());
+            return Ok(true);
         }
-        self.send(to, packet, from)
+        self.send(to, packet, from)?;
+        Ok(false)
     }
 }
 
-// Who has what comes into the queue of somebody: the console has its reads.
-fn holder(to: Party) -> Party {
+// Whether it is the packet with which faults are reported, on its way.
+fn is_report(to: Party, packet: u32) -> bool
+    ensures { result ≡ is_report to packet }
+{
+    match to {
+        Party::Task(id) => id == REPORTER && packet == FAULT_PACKET,
+        _ => false,
+    }
+}
+
+/// Who has what comes into the queue of somebody: the console has its reads.
+pub fn holder(to: Party) -> Party
+    ensures { result ≡ holder to }
+{
     match to {
         Party::ConsoleReads => Party::Task(CONSOLE),
         other => other,

@@ -28,6 +28,17 @@ struct Moment {
     tick: u64,
 }
 
+/// A line of words beside a row.
+#[derive(Clone, Copy)]
+struct WordLine<'r> {
+    /// What it is moved in by.
+    indent: &'static [u8],
+    /// The words.
+    words: &'r [u8],
+    /// Their look.
+    look: &'static [u8],
+}
+
 /// The picture of a story in this form, as the text of an SVG.
 pub fn draw(alloc: Global, form: Form, log: &Log, story: Story) -> Result<Vec<u8>, AllocError> {
     let lanes = story.lanes.into_order()?;
@@ -171,22 +182,7 @@ fn push_runner(words: &mut Vec<u8>, lanes: &[Lane]) -> Result<(), AllocError> {
 // Draws a row after the tick of the row before it.
 fn draw_row(picture: &mut Picture, row: &Row, tick: u64, period: u64) -> Result<(), AllocError> {
     let arrows = row.arrow_count();
-    let mut lines = Vec::new(picture.alloc);
-    for saying in row.sayings.as_slice() {
-        let look: &[u8] = if saying.is_bad {
-            b"words red"
-        } else {
-            b"words "
-        };
-        let parts = wrapped(
-            picture.alloc,
-            saying.text.as_slice(),
-            picture.places.columns,
-        )?;
-        for (place, line) in parts.iter().enumerate() {
-            lines.push((indent_at(place), *line, look))?;
-        }
-    }
+    let lines = lines_of(picture.alloc, row, picture.places.columns)?;
     let height = height_of(row, lines.len() as u64, arrows);
     picture.make_room(height)?;
     let top = picture.y;
@@ -201,19 +197,48 @@ fn draw_row(picture: &mut Picture, row: &Row, tick: u64, period: u64) -> Result<
         draw_priority(picture, new, first)?;
     }
     draw_marks(picture, row.drawn.as_slice(), first)?;
+    draw_words(picture, lines.as_slice(), top)?;
+    picture.note_row(row, top, height)?;
+    picture.y = top + height;
+    Ok(())
+}
+
+// The words of a row in lines of at most so many letters.
+fn lines_of<'r>(alloc: Global, row: &'r Row, most: usize) -> Result<Vec<WordLine<'r>>, AllocError> {
+    let mut lines = Vec::new(alloc);
+    for saying in row.sayings.as_slice() {
+        let look: &[u8] = if saying.is_bad {
+            b"words red"
+        } else {
+            b"words "
+        };
+        let parts = wrapped(alloc, saying.text.as_slice(), most)?;
+        for (place, words) in parts.iter().enumerate() {
+            let indent = indent_at(place);
+            lines.push(WordLine {
+                indent,
+                words,
+                look,
+            })?;
+        }
+    }
+    Ok(lines)
+}
+
+// Draws lines of words, one below the other, in a row that begins here.
+fn draw_words(picture: &mut Picture, lines: &[WordLine], top: Length) -> Result<(), AllocError> {
     let mut y = top + Length::pixels(9);
-    for (before, line, look) in lines.as_slice() {
+    for line in lines {
+        let place = at(picture.places.text_x, y);
         push_moved(
             &mut picture.below,
-            at(picture.places.text_x, y),
-            before,
-            line,
-            look,
+            place,
+            line.indent,
+            line.words,
+            line.look,
         )?;
         y = y + Length::pixels(11);
     }
-    picture.note_row(row, top, height)?;
-    picture.y = top + height;
     Ok(())
 }
 

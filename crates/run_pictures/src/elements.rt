@@ -1,5 +1,7 @@
 // The elements of an SVG picture.
 ghost use Rattle.std.specs.Prelude.{◌≡◌, ◌++◌, OnOk};
+ghost use Rattle.std.specs.List.{flat_map};
+ghost use Rattle.run_pictures.specs.Elements.{length_text, piece_text};
 ghost use Rattle.run_pictures.specs.Escapes.{escaped, escaped_letter};
 
 use crate::lengths::Length;
@@ -37,14 +39,18 @@ pub enum Piece<'a> {
 }
 
 /// Adds parts of elements to a picture, one after the other.
-pub fn push_pieces(svg: &mut Vec<u8>, pieces: &[Piece]) -> Result<(), AllocError> {
+pub fn push_pieces(svg: &mut Vec<u8>, pieces: &[Piece]) -> Result<(), AllocError>
+    ensures { OnOk result (svg.new.items ≡ svg.old.items ++ flat_map piece_text pieces.now) }
+{
     for piece in pieces {
         push_piece(svg, *piece)?;
     }
     Ok(())
 }
 
-fn push_piece(svg: &mut Vec<u8>, piece: Piece) -> Result<(), AllocError> {
+fn push_piece(svg: &mut Vec<u8>, piece: Piece) -> Result<(), AllocError>
+    ensures { OnOk result (svg.new.items ≡ svg.old.items ++ piece_text piece.entry) }
+{
     match piece {
         Piece::Plain(bytes) => push_sentence(svg, &[Bytes(bytes)]),
         Piece::Text(bytes) => push_escaped(svg, bytes),
@@ -59,7 +65,9 @@ fn push_piece(svg: &mut Vec<u8>, piece: Piece) -> Result<(), AllocError> {
 }
 
 // Adds a length in pixels, with one decimal.
-fn push_length(svg: &mut Vec<u8>, length: Length) -> Result<(), AllocError> {
+fn push_length(svg: &mut Vec<u8>, length: Length) -> Result<(), AllocError>
+    ensures { OnOk result (svg.new.items ≡ svg.old.items ++ length_text length.parts) }
+{
     let tenths = length.in_tenths();
     push_sentence(
         svg,

@@ -1,4 +1,6 @@
 // Who sends a packet, or gets one.
+// `run_names` has a party of the same name. That crate knows a store, and comes after this one: here a party is only what the log calls it, of any
+// number, and the reads at the console are the console's.
 ghost use Rattle.std.specs.Prelude.{◌≡◌, ◌++◌, OnOk, option_map};
 ghost use Rattle.run_pictures.specs.Parties.{is_guest, is_task, leading_party, party_name};
 

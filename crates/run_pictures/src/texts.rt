@@ -2,7 +2,7 @@
 ghost use Rattle.std.specs.Prelude.{◌≡◌, ◌==◌, ◌≤◌, not, length, option_map, IfSome};
 ghost use Rattle.std.specs.Char.{is_ascii_digit};
 ghost use Rattle.std.specs.List.{position};
-ghost use Rattle.run_pictures.specs.Letters.{letters, without_blanks};
+ghost use Rattle.run_pictures.specs.Letters.{letters, without_blanks, without_last_blanks};
 ghost use Rattle.run_pictures.specs.Texts.{digits_end, field_end, field_of, leading_number, next_field};
 
 use module_text::number;
@@ -47,6 +47,7 @@ pub fn up_to<'t>(word: &[u8], text: &'t [u8]) -> &'t [u8] {
 pub fn without_blanks(text: &[u8]) -> &[u8]
     ensures value { result.now ≡ without_blanks text.now }
     ensures letters { letters result.now ≡ letters text.now }
+    ensures length { length result.now ≤ length text.now }
 {
     let mut rest = text;
     while let Some((first, others)) = rest.split_first() {
@@ -60,7 +61,9 @@ pub fn without_blanks(text: &[u8]) -> &[u8]
 
 /// A text without the blanks that it ends with.
 pub fn without_last_blanks(text: &[u8]) -> &[u8]
+    ensures value { result.now ≡ without_last_blanks text.now }
     ensures letters { letters result.now ≡ letters text.now }
+    ensures length { length result.now ≤ length text.now }
 {
     let mut line = text;
     while let Some((last, others)) = line.split_last() {

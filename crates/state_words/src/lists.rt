@@ -1,20 +1,18 @@
 // The lists of a kernel, as they are in a store.
 use crate::queues::{QueuedPacket, queued_packets};
-use kernel_lists::{FIRST_GUEST, RootField, TcbField, field, root};
+use kernel_lists::{FIRST_GUEST, TcbField, field};
 use kernel_model::field_of_state;
 use kernel_model::numbers::{FAULT_WORD, WAITS};
 use log_words::tasks::KnownTasks;
 use run_names::{
     KnownProgram, NamedHunk, NamedModule, PacketsOut, Party, hunks_of, modules_of, push_programs,
+    task_blocks,
 };
 use session_text::Session;
 use std::alloc::{AllocError, Global};
 use tool_texts::Said::Bytes;
 use tool_texts::push_sentence;
 use word_store::{Store, word_at};
-
-/// The most tasks that are looked at.
-const MOST_TASKS: u32 = 100;
 
 /// The most coroutines of a task that are looked at.
 const MOST_COROUTINES: u32 = 100_000;
@@ -107,7 +105,7 @@ impl<'a> SeenLists<'a> {
         store: &Store,
         out: &PacketsOut,
     ) -> Result<SeenLists<'a>, AllocError> {
-        let blocks = blocks_of_tasks(alloc, store)?;
+        let blocks = task_blocks(alloc, store)?;
         let blocks = blocks.as_slice();
         let modules = modules_of(alloc, programs, store)?;
         let queued = queued_packets(alloc, store, blocks)?;
@@ -136,20 +134,6 @@ impl<'a> SeenLists<'a> {
     pub fn has_queued(&self, place: Party) -> bool {
         self.queued.as_slice().iter().any(|p| p.place == place)
     }
-}
-
-// The addresses of the blocks of the tasks, in the order of the chain.
-fn blocks_of_tasks(alloc: Global, store: &Store) -> Result<Vec<u32>, AllocError> {
-    let mut blocks = Vec::new(alloc);
-    let mut t = root(store, RootField::FirstTask);
-    for _ in 0..MOST_TASKS {
-        if t == 0 {
-            return Ok(blocks);
-        }
-        blocks.push(t)?;
-        t = field(store, t, TcbField::Link);
-    }
-    Ok(blocks)
 }
 
 // The tasks with these blocks. A session names its residents, and the modules name the guests.

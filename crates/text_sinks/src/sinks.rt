@@ -4,7 +4,7 @@ ghost use Rattle.std.specs.Prelude.{◌≡◌, Some};
 use byte_streams::{Sink, WriteStep};
 use std::alloc::Global;
 
-/// A sink that keeps what is written. It fails only where memory cannot be had.
+/// A sink that keeps what is written. Where it fails, its count of faults has risen.
 #[derive(Drop)]
 pub struct TextSink {
     /// What was written.
@@ -18,7 +18,8 @@ impl TextSink {
 
     /// A sink that has nothing.
     pub fn new(alloc: Global) -> TextSink
-        ensures { result.bytes.items ≡ [] }
+        ensures bytes { result.bytes.items ≡ [] }
+        ensures faults { result.faults ≡ 0 }
     {
         TextSink {
             bytes: Vec::new(alloc),

@@ -1,8 +1,12 @@
-use Rattle.std.proofs.Common.{◌≤◌, ◌+◌, length}
+use Rattle.std.proofs.Common.{◌≡◌, ◌≤◌, ◌+◌, length}
+use Rattle.module_text.specs.TextReader.Lines.{lines_of}
 use Rattle.program_places.proofs.reading.read_map.Given as goal
 
 abbrev pub invariant-loop-line : goal.invariant-loop-line
-invariant-loop-line l = l.line_number + length l.rest ≤ length l.text
+invariant-loop-line l = record {
+  fits : l.line_number + length l.rest ≤ length l.text;
+  lines : l.line_number + length (lines_of l.rest) ≡ length (lines_of l.text);
+}
 
 abbrev pub decreases-loop-line : goal.decreases-loop-line
 decreases-loop-line l = length l.rest
