@@ -1,2 +1,3 @@
 pub mod SessionRuns
+pub mod OneStop
 pub mod ToldOrders

@@ -1,5 +1,6 @@
 pub mod StepLog
 pub mod Words
+pub mod WordedLog
 pub mod ShortFiles
 pub mod SessionPrograms
 pub mod WordWrites

@@ -1,8 +1,10 @@
 // Steps of a machine, some without a word, others one at a time with their lines.
-ghost use Rattle.std.specs.Prelude.{◌≡◌, length, IfOk, OnOk};
+ghost use Rattle.std.specs.Prelude.{◌≡◌, ◌+◌, ◌<◌, ◌≤◌, length, IfOk, OnOk};
+ghost use Rattle.kernel_model.specs.KernelRecord.Ranges.{most_steps};
+ghost use Rattle.tripos_machine.specs.State.{steps_of};
 
 use crate::step_log::gather_steps;
-use byte_streams::{NoSink, Output, pass_on};
+use byte_streams::{NoSink, Output, SinkFault, pass_on};
 use kernel_lists::EventLog;
 use run_names::PacketsOut;
 use std::alloc::{AllocError, Global};
@@ -10,22 +12,21 @@ use text_sinks::TextSink;
 use tripos_machine::Machine;
 use word_store::{NoStoreMemory, Store};
 
-/// The most steps that a machine takes.
-const MOST_STEPS: u64 = 4_000_000_000;
-
 /// Takes so many steps, and notes which packets are out.
 pub(crate) fn take_unheard(
     count: u64,
     machine: &mut Machine,
     out: &mut PacketsOut,
-) -> Result<(), AllocError> {
-    let taken = machine.steps();
-    if taken > MOST_STEPS || count > MOST_STEPS - taken || out.failed() {
+) -> Result<(), AllocError>
+    requires { steps_of machine.old.state + count ≤ most_steps }
+    ensures { OnOk result (steps_of machine.new.state ≤ steps_of machine.old.state + count) }
+{
+    if out.failed() {
         return Err(AllocError);
     }
     match machine.run(count, &mut NoSink, &mut Output::new(), out) {
         Ok(_) => Ok(()),
-        Err(_) => Err(AllocError),
+        Err(SinkFault) => Err(AllocError),
     }
 }
 
@@ -57,14 +58,21 @@ pub(crate) fn take_step(
     former: &mut Store,
     sink: &mut TextSink,
     pending: &mut Output,
-) -> Result<(), AllocError> {
-    if machine.steps() >= MOST_STEPS {
-        return Ok(());
-    }
+) -> Result<(), AllocError>
+    requires { steps_of machine.old.state < most_steps }
+    ensures { OnOk result (steps_of machine.new.state ≤ steps_of machine.old.state + 1) }
+{
     fit(alloc, former, machine.store().size())?;
-    let gathered = gather_steps(machine, 1, former, sink, pending);
-    if gathered.is_err() || pass_on(sink, pending).is_err() {
-        return Err(AllocError);
+    match gather_steps(machine, 1, former, sink, pending) {
+        Ok(()) => keep_all(sink, pending),
+        Err(SinkFault) => Err(AllocError),
     }
-    Ok(())
+}
+
+// Makes the sink keep what is pending.
+fn keep_all(sink: &mut TextSink, pending: &mut Output) -> Result<(), AllocError> {
+    match pass_on(sink, pending) {
+        Ok(()) => Ok(()),
+        Err(SinkFault) => Err(AllocError),
+    }
 }

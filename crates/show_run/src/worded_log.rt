@@ -1,6 +1,5 @@
 // The log of a run in words.
 
-pub mod refusals;
 pub mod requests;
 pub mod runs;
 

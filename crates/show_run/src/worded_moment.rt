@@ -1,6 +1,5 @@
 // The state of a machine at a moment, or the lists of its kernel, in words.
 
-pub mod refusals;
 pub mod requests;
 pub mod runs;
 

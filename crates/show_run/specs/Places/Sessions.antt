@@ -12,16 +12,15 @@ use Rattle.debugger.specs.declared.orders.BadLine.{BadLine}
 use Rattle.debugger.specs.Debugged.{debugged}
 use Rattle.debugger.specs.OrderLines.{first_bad, goes_back}
 use Rattle.show_run.specs.declared.places.sessions.DebugEnd.{DebugEnd}
-use Rattle.show_run.specs.declared.places.sessions.DebugEnd.TheVariants.{NoBoot, Refused, SinkFault, WantMemory}
+use Rattle.show_run.specs.declared.places.sessions.DebugEnd.TheVariants.{NoBoot, Refused, WantMemory}
 
--- an error is the one that the definition gives, unless the sink failed or memory ran out
+-- an error is the one that the definition gives, unless memory ran out
 abbrev pub EndsAs : {X : Type 0} → DebugEnd → Result X DebugEnd → Type 0
-EndsAs SinkFault made = Unit {0}
 EndsAs WantMemory made = Unit {0}
 EndsAs (Refused line code) made = made ≡ Err (Refused line code)
 EndsAs (NoBoot line code) made = made ≡ Err (NoBoot line code)
 
--- what a call returned, seen by view, is what the definition gives, unless the sink failed or memory ran out
+-- what a call returned, seen by view, is what the definition gives, unless memory ran out
 abbrev pub Gives : {X Y : Type 0} → (X → Y) → Result X DebugEnd → Result Y DebugEnd → Type 0
 Gives view (Ok x) made = made ≡ Ok (view x)
 Gives view (Err e) made = EndsAs e made

@@ -10,7 +10,7 @@ ghost use Rattle.debugger.specs.MachineHistory.Pasts.{now_of};
 ghost use Rattle.show_run.specs.Places.Sessions.{Gives, booted_state, checked_state, debugged_state, state_after};
 ghost use Rattle.show_run.specs.declared.places.sessions.DebugEnd.TheVariants.{WantMemory};
 
-use byte_streams::{Output, Sink, SinkFault, WantMemory, pass_on};
+use byte_streams::{NoSink, Output, SinkFault, WantMemory};
 use debugger::{BadLine, History, check_lines, debug, debug_back, goes_back};
 use module_text::TextEnd;
 use session_text::{BootEnd, Session, read_front};
@@ -24,8 +24,6 @@ pub enum DebugEnd {
     Refused { line: u32, code: u32 },
     /// The session does not boot, by this line of it, with this code.
     NoBoot { line: u32, code: u32 },
-    /// The sink failed.
-    SinkFault,
     /// Memory could not be had.
     WantMemory,
 }
@@ -47,27 +45,23 @@ impl From<AllocError> for DebugEnd {
 }
 
 /// The machine of the session at the front of a text, once it has done what the lines after that ask for: the lines of `tripos debug`. What they
-/// write goes to the sink, without the closing line. All lines are checked before the session boots.
-pub fn debugged_machine<K: Sink>(
-    alloc: Global,
-    text: &[u8],
-    out: &mut K,
-) -> Result<Machine, DebugEnd>
+/// write goes nowhere. All lines are checked before the session boots.
+pub fn debugged_machine(alloc: Global, text: &[u8]) -> Result<Machine, DebugEnd>
     requires { length text.now < 2 ^ 30 }
     ensures { Gives (λ m. m.state) result (debugged_state text.now) }
 {
     match read_front(alloc, text) {
         Ok(front) => {
             let lines = text_behind(front.end as usize, text);
-            checked_machine(alloc, &front.session, lines, front.lines + 1, out)
+            checked_machine(alloc, &front.session, lines, front.lines + 1)
         }
         Err(TextEnd::Bad { line, code }) => Err(DebugEnd::Refused { line, code }),
         Err(TextEnd::WantMemory) => Err(DebugEnd::WantMemory),
     }
 }
 
-// The text after a place.
-fn text_behind(place: usize, text: &[u8]) -> &[u8]
+/// The text after a place.
+pub(crate) fn text_behind(place: usize, text: &[u8]) -> &[u8]
     requires { place ≤ length text.now }
     ensures { result.now ≡ drop place text.now }
 {
@@ -75,112 +69,90 @@ fn text_behind(place: usize, text: &[u8]) -> &[u8]
 }
 
 // The same, where the session is read. The first of the lines has this number.
-fn checked_machine<K: Sink>(
+fn checked_machine(
     alloc: Global,
     session: &Session,
     lines: &[u8],
     first: u32,
-    out: &mut K,
 ) -> Result<Machine, DebugEnd>
     requires lawful { IsLawful session.now }
     requires numbers { first + length lines.now < 2 ^ 32 }
     ensures { Gives (λ m. m.state) result (checked_state session.now first (lines_of lines.now)) }
 {
     match check_lines(lines, first) {
-        Ok(()) => booted_machine(alloc, session, lines, out),
+        Ok(()) => booted_machine(alloc, session, lines),
         Err(BadLine { line, code }) => Err(DebugEnd::Refused { line, code }),
     }
 }
 
 // The same, where the lines are checked.
-fn booted_machine<K: Sink>(
-    alloc: Global,
-    session: &Session,
-    lines: &[u8],
-    out: &mut K,
-) -> Result<Machine, DebugEnd>
+fn booted_machine(alloc: Global, session: &Session, lines: &[u8]) -> Result<Machine, DebugEnd>
     requires { IsLawful session.now }
     ensures { Gives (λ m. m.state) result
         (booted_state session.now.go (lines_of lines.now) (boot session.now)) }
 {
     match boot(alloc, session) {
-        Ok(machine) => machine_after(alloc, machine, lines, session.go, out),
+        Ok(machine) => machine_after(alloc, machine, lines, session.go),
         Err(BootEnd::Line { line, code }) => Err(DebugEnd::NoBoot { line, code }),
         Err(BootEnd::WantMemory) => Err(DebugEnd::WantMemory),
     }
 }
 
 // A machine after the lines. A history is made first, exactly where some line undoes steps.
-fn machine_after<K: Sink>(
+fn machine_after(
     alloc: Global,
     machine: Machine,
     lines: &[u8],
     budget: u64,
-    out: &mut K,
 ) -> Result<Machine, DebugEnd>
     requires { steps_of machine.state + budget ≤ most_steps }
     ensures { Gives (λ m. m.state) result
         (Ok (state_after budget (lines_of lines.now) machine.state)) }
 {
     if !goes_back(lines) {
-        return machine_forward(machine, lines, budget, out);
+        return machine_forward(machine, lines, budget);
     }
     match History::new(alloc, &machine) {
-        Ok(mut history) => machine_both_ways(machine, &mut history, lines, budget, out),
+        Ok(mut history) => machine_both_ways(machine, &mut history, lines, budget),
         Err(WantMemory) => Err(DebugEnd::WantMemory),
     }
 }
 
 // The same, where no line undoes steps.
-fn machine_forward<K: Sink>(
-    machine: Machine,
-    lines: &[u8],
-    budget: u64,
-    out: &mut K,
-) -> Result<Machine, DebugEnd>
+fn machine_forward(machine: Machine, lines: &[u8], budget: u64) -> Result<Machine, DebugEnd>
     requires { steps_of machine.state + budget ≤ most_steps }
     ensures { Gives (λ m. m.state) result
         (Ok (debugged budget (lines_of lines.now) machine.state None).after.state) }
 {
     let mut machine = machine;
-    let mut pending = Output::new();
-    match debug(&mut machine, lines, budget, out, &mut pending) {
-        Ok(()) => passed_on(machine, out, &mut pending),
-        Err(SinkFault) => Err(DebugEnd::SinkFault),
+    match debug(&mut machine, lines, budget, &mut NoSink, &mut Output::new()) {
+        Ok(()) => Ok(machine),
+        Err(SinkFault) => unreachable!(),
     }
 }
 
 // The same, by a history that begins with the machine.
-fn machine_both_ways<K: Sink>(
+fn machine_both_ways(
     machine: Machine,
     history: &mut History,
     lines: &[u8],
     budget: u64,
-    out: &mut K,
 ) -> Result<Machine, DebugEnd>
     requires steps { steps_of machine.state + budget ≤ most_steps }
     requires begins { history.old ≡ record { past = []; now = now_of machine.state machine.keys } }
     ensures { Gives (λ m. m.state) result
         (Ok (debugged budget (lines_of lines.now) machine.state (Some [])).after.state) }
 {
-    let mut pending = Output::new();
-    let (machine, told) = debug_back(machine, history, lines, budget, out, &mut pending);
+    let (machine, told) = debug_back(
+        machine,
+        history,
+        lines,
+        budget,
+        &mut NoSink,
+        &mut Output::new(),
+    );
     match told {
-        Ok(()) => passed_on(machine, out, &mut pending),
-        Err(SinkFault) => Err(DebugEnd::SinkFault),
-    }
-}
-
-// The machine, where what it wrote has gone out.
-fn passed_on<K: Sink>(
-    machine: Machine,
-    out: &mut K,
-    pending: &mut Output,
-) -> Result<Machine, DebugEnd>
-    ensures { Gives (λ m. m.state) result (Ok machine.state) }
-{
-    match pass_on(out, pending) {
         Ok(()) => Ok(machine),
-        Err(SinkFault) => Err(DebugEnd::SinkFault),
+        Err(SinkFault) => unreachable!(),
     }
 }

@@ -1,10 +1,9 @@
 // The places of a bundle, in words.
 ghost use Rattle.std.specs.Prelude.{◌≡◌, ◌<◌, ◌^◌, length};
 
-use crate::no_machines::{no_boot, refused};
+use crate::no_machines::{TOO_LONG, no_boot, refused};
 use crate::places::hunks::find_hunks;
 use crate::places::sessions::{DebugEnd, debugged_machine};
-use byte_streams::NoSink;
 use module_text::TextEnd;
 use program_places::answers::answer_places;
 use program_places::loaded::{LoadedHunk, is_placed, placed_hunks};
@@ -15,9 +14,6 @@ use program_places::wrongs::{Wrong, wrong_text};
 use std::alloc::{AllocError, Global};
 use tool_bundles::{BundleEnd, read_bundle};
 use tool_texts::ToolText;
-
-/// A text of so many bytes, or more, is not read: it gets no memory.
-const TOO_LONG: usize = 1 << 30;
 
 /// The places that a bundle asks for: its words are the path of a session, that of its map, that of lines of the debugger or `-`, and then each
 /// place. The session is run by the lines, or by `CONT`, unless the map says where its programs are. Where one place is asked for, a line of
@@ -61,7 +57,7 @@ fn answer_by_map(
         Ok(loaded) => answer_places(alloc, request, map, loaded.as_slice()),
         Err(DebugEnd::Refused { line, code }) => refused(alloc, line, code),
         Err(DebugEnd::NoBoot { line, code }) => no_boot(alloc, line, code),
-        Err(DebugEnd::SinkFault | DebugEnd::WantMemory) => Err(AllocError),
+        Err(DebugEnd::WantMemory) => Err(AllocError),
     }
 }
 
@@ -78,7 +74,7 @@ fn loaded_hunks(
     if text.as_slice().len() >= TOO_LONG {
         return Err(DebugEnd::WantMemory);
     }
-    let machine = debugged_machine(alloc, text.as_slice(), &mut NoSink)?;
+    let machine = debugged_machine(alloc, text.as_slice())?;
     Ok(find_hunks(alloc, map, &machine)?)
 }
 

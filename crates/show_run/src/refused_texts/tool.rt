@@ -4,15 +4,13 @@ ghost use Rattle.tool_texts.specs.Told.{told_of};
 ghost use Rattle.show_run.specs.RefusedTexts.Answers.{AreErrors, AreErrorsOf, no_bundle};
 ghost use Rattle.show_run.specs.RefusedTexts.Requests.{request_in};
 
+use crate::no_machines::TOO_LONG;
 use crate::refused_texts::refusals::text_refusal;
 use crate::refused_texts::requests::{Request, request_of};
 use std::alloc::{AllocError, Global};
 use text_errors::text_errors;
 use tool_bundles::{BundleEnd, read_bundle};
 use tool_texts::ToolText;
-
-/// A text of so many bytes, or more, is not read: it gets no memory.
-const TOO_LONG: usize = 1 << 30;
 
 /// What is wrong in the text of a bundle, in words. Its words are the kind of the text, and the name of its file, with its bytes. Nothing is
 /// said of a text that the program takes. What is said of another begins with the line and the code of the program's refusal. A bundle

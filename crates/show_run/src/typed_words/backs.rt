@@ -52,6 +52,7 @@ pub fn go_back_steps(
     ensures steps { OnOk result (IsAfter case.now.session
         (steps_of debuggee.old.machine.state - n) debuggee.new.machine.state) }
     ensures run { OnOk result (IsRun case.now.session debuggee.new.machine.state) }
+    ensures stops { debuggee.new.stops ≡ debuggee.old.stops }
 {
     let taken = debuggee.machine.steps();
     if taken < n {
@@ -70,7 +71,8 @@ fn return_to(
 ) -> Result<(), AllocError>
     requires lawful { IsLawful case.now.session }
     requires few { steps ≤ case.now.session.go }
-    ensures { OnOk result (IsAfter case.now.session steps debuggee.new.machine.state) }
+    ensures state { OnOk result (IsAfter case.now.session steps debuggee.new.machine.state) }
+    ensures stops { debuggee.new.stops ≡ debuggee.old.stops }
 {
     debuggee.machine = machine_after(alloc, &case.session, steps)?;
     debuggee.lines = lines_of_stops(alloc, debuggee.lines.as_slice())?;

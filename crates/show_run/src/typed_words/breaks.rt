@@ -1,6 +1,7 @@
 // Breakpoints.
-ghost use Rattle.std.specs.Prelude.{OnOk};
+ghost use Rattle.std.specs.Prelude.{◌≡◌, IsTrue, IfOk, OnOk};
 ghost use Rattle.session_text.specs.Canonical.{IsLawful};
+ghost use Rattle.show_run.specs.TypedWords.Changes.{is_set, is_stop};
 ghost use Rattle.show_run.specs.TypedWords.Runs.{IsRun};
 
 use crate::typed_words::addresses::{addresses_named, assembly_at, digits_of};
@@ -10,6 +11,7 @@ use crate::typed_words::debuggees::Debuggee;
 use crate::typed_words::lines::obey;
 use crate::typed_words::registers::is_address;
 use crate::typed_words::sentences::push_said;
+use debugger::Breakpoints;
 use module_text::number;
 use std::alloc::{AllocError, Global};
 use tool_texts::Said::{Bytes, Number};
@@ -38,28 +40,24 @@ pub fn change_at(
     ensures { OnOk result (IsRun case.now.session debuggee.new.machine.state) }
 {
     if is_address(place) {
-        return change_stop(alloc, case, debuggee, change, place, place, text);
+        change_stop(alloc, case, debuggee, change, place, place, text)?;
+        return Ok(());
     }
     let addresses = addresses_named(alloc, case, &debuggee.machine, place, text)?;
+    let mut are_all_changed = true;
     for address in addresses.as_slice() {
         let digits = digits_of(alloc, *address)?;
-        change_stop(
-            alloc,
-            case,
-            debuggee,
-            change,
-            place,
-            digits.as_slice(),
-            text,
-        )?;
+        let digits = digits.as_slice();
+        let is_changed = change_stop(alloc, case, debuggee, change, place, digits, text)?;
+        are_all_changed = are_all_changed && is_changed;
     }
-    if addresses.len() > 1 {
-        push_each(text, change, place, addresses.as_slice())?;
+    if addresses.len() <= 1 || !are_all_changed {
+        return Ok(());
     }
-    Ok(())
+    push_each(text, change, place, addresses.as_slice())
 }
 
-// Sets or takes away a breakpoint at a byte address.
+// Sets or takes away a breakpoint at a byte address. The answer is whether this is done: there may be no room for one more.
 fn change_stop(
     alloc: Global,
     case: &Case,
@@ -68,19 +66,37 @@ fn change_stop(
     place: &[u8],
     digits: &[u8],
     text: &mut Vec<u8>,
-) -> Result<(), AllocError>
+) -> Result<bool, AllocError>
     requires lawful { IsLawful case.now.session }
     requires run { IsRun case.now.session debuggee.old.machine.state }
-    ensures { OnOk result (IsRun case.now.session debuggee.new.machine.state) }
+    ensures run { OnOk result (IsRun case.now.session debuggee.new.machine.state) }
+    ensures done { IfOk result (λ is_done. IsTrue is_done → is_stop digits.now debuggee.new.stops ≡ is_set change) }
 {
     let mut line = Vec::new(alloc);
     push_sentence(&mut line, &[Bytes(change_word(change)), Bytes(digits)])?;
     if !obey(alloc, case, debuggee, line.as_slice(), text)? {
-        return Ok(());
+        return Ok(false);
     }
-    match change {
-        Change::Set => push_note(alloc, case, debuggee, place, digits, text),
-        Change::Removed => Ok(()),
+    if is_set(change) {
+        push_note(alloc, case, debuggee, place, digits, text)?;
+    }
+    Ok(is_stop(digits, &debuggee.stops) == is_set(change))
+}
+
+// Whether there is a breakpoint then.
+fn is_set(change: Change) -> bool
+    ensures { result ≡ is_set change }
+{
+    matches!(change, Change::Set)
+}
+
+// Whether there is a breakpoint at the address that digits say.
+fn is_stop(digits: &[u8], stops: &Breakpoints) -> bool
+    ensures { result ≡ is_stop digits.now stops.now }
+{
+    match number(digits) {
+        Some(address) => u32::try_from(address).is_ok_and(|a| stops.has(a)),
+        None => false,
     }
 }
 

@@ -1,5 +1,5 @@
 // Steps over a call, and on to the end of a function.
-ghost use Rattle.std.specs.Prelude.{OnOk};
+ghost use Rattle.std.specs.Prelude.{◌≡◌, OnOk};
 ghost use Rattle.session_text.specs.Canonical.{IsLawful};
 ghost use Rattle.show_run.specs.TypedWords.Runs.{IsRun};
 
@@ -19,7 +19,7 @@ use tool_texts::Said::Bytes;
 use tripos_machine::Machine;
 use word_store::Store;
 
-/// How often a function may call itself before it is not waited for any more.
+/// How often the machine may come to a place in another frame or another task before it is not waited for any longer.
 const MOST_TIMES: u32 = 1000;
 
 /// Where a function goes back to.
@@ -134,7 +134,8 @@ pub fn finish(
 ) -> Result<(), AllocError>
     requires lawful { IsLawful case.now.session }
     requires run { IsRun case.now.session debuggee.old.machine.state }
-    ensures { OnOk result (IsRun case.now.session debuggee.new.machine.state) }
+    ensures run { OnOk result (IsRun case.now.session debuggee.new.machine.state) }
+    ensures stops { OnOk result (debuggee.new.stops ≡ debuggee.old.stops) }
 {
     match return_of(&debuggee.machine) {
         Some(place) => go_until(alloc, case, debuggee, place, text),
@@ -153,6 +154,7 @@ fn return_of(machine: &Machine) -> Option<Return> {
 }
 
 // Goes on until the task is there with this frame, or at a breakpoint, or the run stops.
+#[tactic(auto, using(crate::proofs::TypedWords::OneStop::removed_again))]
 fn go_until(
     alloc: Global,
     case: &Case,
@@ -162,7 +164,8 @@ fn go_until(
 ) -> Result<(), AllocError>
     requires lawful { IsLawful case.now.session }
     requires run { IsRun case.now.session debuggee.old.machine.state }
-    ensures { OnOk result (IsRun case.now.session debuggee.new.machine.state) }
+    ensures run { OnOk result (IsRun case.now.session debuggee.new.machine.state) }
+    ensures stops { OnOk result (debuggee.new.stops ≡ debuggee.old.stops) }
 {
     let begun = debuggee.machine.steps();
     let is_set = debuggee.stops.has(place.pc);
@@ -192,7 +195,7 @@ fn push_too_often(text: &mut Vec<u8>) -> Result<(), AllocError> {
     push_said(
         text,
         &[Bytes(
-            b"the function called itself more than 1,000 times, which is too often to be waited for",
+            b"it came to this place 1,000 times in another frame or another task, and is not waited for any longer",
         )],
     )
 }
@@ -207,7 +210,8 @@ fn waits_for(
 ) -> Result<bool, AllocError>
     requires lawful { IsLawful session.now }
     requires run { IsRun session.now debuggee.old.machine.state }
-    ensures { OnOk result (IsRun session.now debuggee.new.machine.state) }
+    ensures run { OnOk result (IsRun session.now debuggee.new.machine.state) }
+    ensures stops { debuggee.new.stops ≡ debuggee.old.stops }
 {
     for turn in 0..MOST_TIMES {
         go_to(session, &mut debuggee.machine, &debuggee.stops, gathered)?;

@@ -1,10 +1,11 @@
 // The debugger's own lines, as words.
-ghost use Rattle.std.specs.Prelude.{◌≡◌, None, Ok, OnOk, false};
+ghost use Rattle.std.specs.Prelude.{◌≡◌, ◌++◌, None, Ok, OnOk, false};
 ghost use Rattle.session_text.specs.Canonical.{IsLawful};
 ghost use Rattle.debugger.specs.Debugged.{Debugging, line_obeyed, obeyed};
 ghost use Rattle.debugger.specs.OrderLines.{is_back};
 ghost use Rattle.debugger.specs.Orders.{order_of};
 ghost use Rattle.show_run.specs.TypedWords.Runs.{IsRun, limits_of};
+ghost use Rattle.show_run.specs.TypedWords.ShownBytes.{GoesOnFrom, shown};
 
 use crate::typed_words::cases::Case;
 use crate::typed_words::debuggees::Debuggee;
@@ -36,7 +37,7 @@ pub fn obey(
         OnOk result (is_back (order_of 0 line.now) ≡ false → debuggee.new.machine.state ≡ told.after.state) }
     ensures stops { let d : Debugging = record { state = debuggee.old.machine.state; stops = debuggee.old.stops; past = None } in
         let told = line_obeyed (limits_of case.now.session) (order_of 0 line.now) d in
-        OnOk result (is_back (order_of 0 line.now) ≡ false → debuggee.new.stops ≡ told.after.stops) }
+        OnOk result (debuggee.new.stops ≡ told.after.stops) }
 {
     match order_of(0, line) {
         Ok(order) => {
@@ -83,23 +84,20 @@ fn obey_order(
         OnOk result (is_back (Ok order) ≡ false
         → debuggee.new.machine.state ≡ (obeyed (limits_of case.now.session) order d).after.state) }
     ensures stops { let d : Debugging = record { state = debuggee.old.machine.state; stops = debuggee.old.stops; past = None } in
+        OnOk result (debuggee.new.stops ≡ (obeyed (limits_of case.now.session) order d).after.stops) }
+    ensures text { let d : Debugging = record { state = debuggee.old.machine.state; stops = debuggee.old.stops; past = None } in
         OnOk result (is_back (Ok order) ≡ false
-        → debuggee.new.stops ≡ (obeyed (limits_of case.now.session) order d).after.stops) }
+        → GoesOnFrom (text.old.items ++ shown (obeyed (limits_of case.now.session) order d).bytes) text.new.items) }
 {
-    if is_back(order) {
+    if let Order::Back(_) = order {
         return undo(alloc, case, debuggee, line, text);
     }
     let begun = debuggee.machine.steps();
     let told = obeyed(alloc, &case.session, debuggee, order)?;
     push_shown(text, told.as_slice())?;
-    note_order(alloc, case, debuggee, begun, order, line, text)
-}
-
-// Whether an order asks that steps are undone.
-fn is_back(order: Order) -> bool
-    ensures { result ≡ is_back (Ok order) }
-{
-    matches!(order, Order::Back(_))
+    let mut more = Vec::new(alloc);
+    note_order(alloc, case, debuggee, begun, order, line, &mut more)?;
+    push_sentence(text, &[Bytes(more.as_slice())])
 }
 
 // Notes the line of an order that was obeyed, where it has led to the machine, and shows where steps have led, after so many.
@@ -143,7 +141,8 @@ pub fn arrive(
     gathered: &mut Gathered,
     text: &mut Vec<u8>,
 ) -> Result<(), AllocError>
-    ensures { debuggee.new.machine ≡ debuggee.old.machine }
+    ensures machine { debuggee.new.machine ≡ debuggee.old.machine }
+    ensures stops { debuggee.new.stops ≡ debuggee.old.stops }
 {
     let told = gathered.take(alloc)?;
     push_shown(text, told.as_slice())?;
@@ -191,7 +190,8 @@ fn undo(
     text: &mut Vec<u8>,
 ) -> Result<(), AllocError>
     requires { IsLawful case.now.session }
-    ensures { OnOk result (IsRun case.now.session debuggee.new.machine.state) }
+    ensures run { OnOk result (IsRun case.now.session debuggee.new.machine.state) }
+    ensures stops { debuggee.new.stops ≡ debuggee.old.stops }
 {
     let (_, before) = machine_by_lines(alloc, &case.session, debuggee.lines.as_slice())?;
     keep_line(&mut debuggee.lines, line)?;

@@ -191,7 +191,7 @@ fn push_word(text: &mut Vec<u8>, address: u64, word: u32) -> Result<(), AllocErr
             Bytes(b"  "),
         ],
     )?;
-    push_signed(text, i64::from(signed(word)))?;
+    push_padded_signed(text, i64::from(signed(word)))?;
     push_sentence(text, &[Bytes(b"  ")])?;
     for byte in word.to_le_bytes() {
         text.push(letter_of(byte))?;
@@ -200,7 +200,7 @@ fn push_word(text: &mut Vec<u8>, address: u64, word: u32) -> Result<(), AllocErr
 }
 
 // A signed number, with blanks before it.
-fn push_signed(text: &mut Vec<u8>, value: i64) -> Result<(), AllocError> {
+fn push_padded_signed(text: &mut Vec<u8>, value: i64) -> Result<(), AllocError> {
     let mut buffer = Buffer::new();
     let digits = buffer.format(value).as_bytes();
     push_blanks(text, WIDTH.saturating_sub(digits.len()))?;

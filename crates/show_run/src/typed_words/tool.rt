@@ -3,7 +3,7 @@ ghost use Rattle.std.specs.Prelude.{◌≡◌, ◌<◌, ◌^◌, length, OnOk};
 ghost use Rattle.session_text.specs.Canonical.{IsLawful};
 ghost use Rattle.show_run.specs.TypedWords.Runs.{IsRun};
 
-use crate::no_machines::{no_boot, refused};
+use crate::no_machines::{TOO_LONG, no_boot, refused};
 use crate::typed_words::addresses::address_digits;
 use crate::typed_words::backs::go_back;
 use crate::typed_words::backtraces::push_backtrace;
@@ -30,9 +30,6 @@ use tool_bundles::{BundleEnd, read_bundle};
 use tool_texts::Said::{Bytes, Number};
 use tool_texts::{Lent, ToolText, push_sentence};
 use tripos_machine::boot;
-
-/// A text of so many bytes, or more, is not read: it gets no memory.
-const TOO_LONG: usize = 1 << 30;
 
 /// What the words of a bundle show of a session, one after another. The bundle has the session, its map or the word `-`, and the words, a
 /// line each, and then the files that the map names. Of more words it gives more: what it gives of the first words comes first. Where the
@@ -98,15 +95,8 @@ fn map_read<'a>(alloc: Global, text: &'a [u8]) -> Result<Option<ProgramMap<'a>>,
     }
     match read_map(alloc, text) {
         Ok(map) => Ok(Some(map)),
-        Err(TextEnd::Bad { .. }) => map_read_empty(alloc),
+        Err(TextEnd::Bad { .. }) => Ok(Some(ProgramMap::new(alloc))),
         Err(TextEnd::WantMemory) => Err(AllocError),
-    }
-}
-
-fn map_read_empty<'a>(alloc: Global) -> Result<Option<ProgramMap<'a>>, AllocError> {
-    match read_map(alloc, b"") {
-        Ok(map) => Ok(Some(map)),
-        Err(_) => Err(AllocError),
     }
 }
 
@@ -339,7 +329,16 @@ fn do_word(
         Word::Blocks => obey_with(alloc, case, debuggee, b"BLOCKS", b"", text),
         Word::Backtrace => push_backtrace(alloc, case, debuggee, text),
         Word::Help => push_sentence(text, &[Bytes(HELP)]),
-        _ => Ok(()),
+        // these are done before, or need a word
+        Word::Quit
+        | Word::Line
+        | Word::Unknown
+        | Word::Break
+        | Word::Unbreak
+        | Word::NextWrite
+        | Word::LastWrite
+        | Word::Words
+        | Word::Queue => Ok(()),
     }
 }
 

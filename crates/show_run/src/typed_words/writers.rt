@@ -32,7 +32,8 @@ pub fn go_to_write(
 ) -> Result<(), AllocError>
     requires lawful { IsLawful case.now.session }
     requires run { IsRun case.now.session debuggee.old.machine.state }
-    ensures { OnOk result (IsRun case.now.session debuggee.new.machine.state) }
+    ensures run { OnOk result (IsRun case.now.session debuggee.new.machine.state) }
+    ensures stops { debuggee.new.stops ≡ debuggee.old.stops }
 {
     let Some(address) = word_address(digits) else {
         return push_no_address(text, digits);

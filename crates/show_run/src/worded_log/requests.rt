@@ -1,4 +1,5 @@
 // What is asked of the log.
+use crate::no_machines::step_named;
 use module_text::{after_word, number};
 use tool_bundles::{Content, Entry};
 
@@ -13,7 +14,7 @@ pub struct Request<'a> {
     pub task: Option<u32>,
     /// The words of the kinds that are wanted, or `-`.
     pub kinds: &'a [u8],
-    /// The first step that is told, from 1.
+    /// The first step that is told, from 1; 0 stands for 1.
     pub first: u64,
     /// The last, if one is named.
     pub last: Option<u64>,
@@ -32,8 +33,8 @@ pub fn request_of<'a>(entries: &[Entry<'a>]) -> Option<Request<'a>> {
         session: bytes.bytes(),
         task: task_of(task.word.bytes())?,
         kinds: kinds.word.bytes(),
-        first: number(first.word.bytes())?.max(1),
-        last: last_of(last.word.bytes())?,
+        first: number(first.word.bytes())?,
+        last: step_named(last.word.bytes())?,
     })
 }
 
@@ -44,12 +45,4 @@ fn task_of(word: &[u8]) -> Option<Option<u32>> {
     }
     let id = number(after_word(b"task ", word)?)?;
     Some(Some(u32::try_from(id).unwrap_or(u32::MAX)))
-}
-
-// The step that a word names: none where it is `-`; `None` where it is neither.
-fn last_of(word: &[u8]) -> Option<Option<u64>> {
-    if word == b"-".as_slice() {
-        return Some(None);
-    }
-    Some(Some(number(word)?))
 }

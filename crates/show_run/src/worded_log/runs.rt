@@ -1,25 +1,23 @@
 // The run whose steps are told.
-ghost use Rattle.session_text.specs.Canonical.{IsLawful};
+ghost use Rattle.std.specs.Prelude.{◌≡◌, ◌+◌, ◌-◌, ◌<◌, ◌≤◌, max, IfOk, OnOk};
+ghost use Rattle.kernel_model.specs.KernelRecord.Ranges.{most_steps};
+ghost use Rattle.tripos_machine.specs.State.{steps_of};
+ghost use Rattle.show_run.specs.WordedLog.{IsWindow, window_end};
 
+use crate::no_machines::{RunEnd, entries_of, machine_of, session_of, told_end};
 use crate::single_steps::{former_store, take_step, take_unheard};
 use crate::step_log::gather_boot;
-use crate::worded_log::refusals::{LogEnd, Refusal, told_refusal};
 use crate::worded_log::requests::{Request, request_of};
 use byte_streams::{Output, pass_on};
 use log_words::{StepLists, Teller, Wanted, read_step};
-use module_text::TextEnd;
 use run_names::known_programs;
-use session_text::{BootEnd, Session, read_session};
+use session_text::Session;
 use std::alloc::{AllocError, Global};
 use text_sinks::TextSink;
-use tool_bundles::{BundleEnd, read_bundle};
 use tool_texts::Said::{Bytes, Number};
 use tool_texts::{ToolText, push_sentence};
-use tripos_machine::{Machine, boot};
+use tripos_machine::Machine;
 use word_store::Store;
-
-/// A text of so many bytes, or more, is not read: it gets no memory.
-const TOO_LONG: usize = 1 << 30;
 
 /// The most steps that are told where nobody says up to which.
 const MOST_TOLD: u64 = 1_000_000;
@@ -42,56 +40,31 @@ pub(crate) fn worded_log(alloc: Global, bundle: &[u8]) -> Result<ToolText, Alloc
             is_wrong: false,
             bytes,
         }),
-        Err(LogEnd::Refused(refusal)) => told_refusal(alloc, refusal),
-        Err(LogEnd::WantMemory) => Err(AllocError),
+        Err(end) => told_end(alloc, b"log", end),
     }
 }
 
 // The text of the log that a bundle asks for.
-fn told_text(alloc: Global, bundle: &[u8]) -> Result<Vec<u8>, LogEnd> {
-    let entries = match read_bundle(alloc, bundle) {
-        Ok(entries) => entries,
-        Err(BundleEnd::NoBundle) => return Err(LogEnd::Refused(Refusal::NoRequest)),
-        Err(BundleEnd::WantMemory) => return Err(LogEnd::WantMemory),
-    };
-    match request_of(entries.as_slice()) {
-        Some(request) => session_text(alloc, request),
-        None => Err(LogEnd::Refused(Refusal::NoRequest)),
-    }
-}
-
-// The text of the log of a session.
-fn session_text(alloc: Global, request: Request) -> Result<Vec<u8>, LogEnd> {
-    if request.session.len() >= TOO_LONG {
-        return Err(LogEnd::WantMemory);
-    }
-    match read_session(alloc, request.session) {
-        Ok(session) => run_text(alloc, request, &session),
-        Err(TextEnd::Bad { line, code }) => Err(LogEnd::Refused(Refusal::NotRead { line, code })),
-        Err(TextEnd::WantMemory) => Err(LogEnd::WantMemory),
-    }
-}
-
-// The text of the log of its run.
-fn run_text(alloc: Global, request: Request, session: &Session) -> Result<Vec<u8>, LogEnd>
-    requires { IsLawful session.now }
-{
+fn told_text(alloc: Global, bundle: &[u8]) -> Result<Vec<u8>, RunEnd> {
+    let entries = entries_of(alloc, bundle)?;
+    let request = request_of(entries.as_slice()).ok_or(RunEnd::NoRequest)?;
+    let session = session_of(alloc, request.session)?;
     let window = window_of(request, session.go)?;
-    match boot(alloc, session) {
-        Ok(mut machine) => machine_text(alloc, request, session, window, &mut machine),
-        Err(BootEnd::Line { line, code }) => {
-            Err(LogEnd::Refused(Refusal::NoBoot { line, code }))
-        }
-        Err(BootEnd::WantMemory) => Err(LogEnd::WantMemory),
-    }
+    let mut machine = machine_of(alloc, &session)?;
+    machine_text(alloc, request, &session, window, &mut machine)
 }
 
 // Which steps of a run of so many are told.
-fn window_of(request: Request, go: u64) -> Result<Window, LogEnd> {
-    let first = request.first;
+fn window_of(request: Request, go: u64) -> Result<Window, RunEnd>
+    ensures { IfOk result (IsWindow go) }
+{
+    let first = request.first.max(1);
+    if first > go.max(1) {
+        return Err(RunEnd::TooLate { first, last: go });
+    }
     let last = request.last.unwrap_or(go).min(go);
     if last < first && first != 1 {
-        return Err(LogEnd::Refused(Refusal::TooLate { first, last }));
+        return Err(RunEnd::Backwards);
     }
     let most = first.saturating_add(MOST_TOLD - 1);
     let is_cut = request.last.is_none() && last > most;
@@ -109,7 +82,12 @@ fn machine_text(
     session: &Session,
     window: Window,
     machine: &mut Machine,
-) -> Result<Vec<u8>, LogEnd> {
+) -> Result<Vec<u8>, RunEnd>
+    requires begins { steps_of machine.old.state ≡ 0 }
+    requires window { IsWindow session.now.go window }
+    requires few { session.now.go ≤ most_steps }
+    ensures { OnOk result (steps_of machine.new.state ≤ session.now.go) }
+{
     let programs = known_programs(alloc, session)?;
     let wanted = Wanted::new(alloc, request.task, request.kinds)?;
     let mut teller = Teller::new(alloc, session, wanted, programs.as_slice())?;
@@ -121,6 +99,7 @@ fn machine_text(
     tell_boot(alloc, window, machine, &mut sink, &mut teller)?;
     tell_steps(alloc, window, machine, &mut sink, &mut teller)?;
     let mut text = Vec::new(alloc);
+    push_note(&mut text, window, machine)?;
     push_head(&mut text, request, session, window, machine)?;
     push_sentence(
         &mut text,
@@ -134,7 +113,11 @@ fn machine_text(
 }
 
 // Takes the steps before the first that is told, and learns which packets are out then.
-fn go_before(window: Window, machine: &mut Machine, teller: &mut Teller) -> Result<(), LogEnd> {
+fn go_before(window: Window, machine: &mut Machine, teller: &mut Teller) -> Result<(), RunEnd>
+    requires begins { steps_of machine.old.state ≡ 0 }
+    requires few { window.first ≤ most_steps + 1 }
+    ensures { OnOk result (steps_of machine.new.state ≤ window.first - 1) }
+{
     let before = window.first.saturating_sub(1);
     if before == 0 {
         return Ok(());
@@ -142,10 +125,10 @@ fn go_before(window: Window, machine: &mut Machine, teller: &mut Teller) -> Resu
     machine.note_boot(&mut teller.out);
     take_unheard(before, machine, &mut teller.out)?;
     if machine.steps() < before || machine.stop().is_some() {
-        return Err(LogEnd::Refused(Refusal::Stopped {
+        return Err(RunEnd::Stopped {
             first: window.first,
             last: machine.steps(),
-        }));
+        });
     }
     Ok(())
 }
@@ -177,12 +160,16 @@ fn tell_steps(
     machine: &mut Machine,
     sink: &mut TextSink,
     teller: &mut Teller,
-) -> Result<(), AllocError> {
+) -> Result<(), AllocError>
+    requires begins { steps_of machine.old.state ≤ window_end window }
+    requires few { window.last ≤ most_steps }
+    ensures { OnOk result (steps_of machine.new.state ≤ window_end window) }
+{
     let mut former = former_store(alloc, machine.store().size())?;
     let mut pending = Output::new();
     let mut lists = StepLists::new(alloc);
-    for _ in window.first..window.last.saturating_add(1) {
-        if machine.stop().is_some() {
+    for turn in window.first..window.last.saturating_add(1) {
+        if machine.stop().is_some() || machine.steps() >= window.last {
             return Ok(());
         }
         take_step(alloc, machine, &mut former, sink, &mut pending)?;
@@ -206,7 +193,24 @@ fn tell_lines(
     Ok(())
 }
 
-// The note that not all steps are told, and the first line.
+// The note that not all steps are told, where it is so.
+fn push_note(text: &mut Vec<u8>, window: Window, machine: &Machine) -> Result<(), AllocError> {
+    if !window.is_cut || machine.stop().is_some() {
+        return Ok(());
+    }
+    push_sentence(
+        text,
+        &[
+            Bytes(b"log: note: steps "),
+            Number(window.first),
+            Bytes(b" to "),
+            Number(window.last),
+            Bytes(b" are shown; --from and --to show others\n"),
+        ],
+    )
+}
+
+// The first line.
 fn push_head(
     text: &mut Vec<u8>,
     request: Request,
@@ -214,18 +218,6 @@ fn push_head(
     window: Window,
     machine: &Machine,
 ) -> Result<(), AllocError> {
-    if window.is_cut && machine.stop().is_none() {
-        push_sentence(
-            text,
-            &[
-                Bytes(b"log: note: steps "),
-                Number(window.first),
-                Bytes(b" to "),
-                Number(window.last),
-                Bytes(b" are shown; --from and --to show others\n"),
-            ],
-        )?;
-    }
     push_sentence(
         text,
         &[

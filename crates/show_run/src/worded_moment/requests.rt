@@ -1,5 +1,5 @@
 // What is asked of a moment.
-use module_text::number;
+use crate::no_machines::step_named;
 use tool_bundles::{Content, Entry};
 
 /// What is told.
@@ -36,7 +36,7 @@ pub fn request_of<'a>(entries: &[Entry<'a>]) -> Option<Request<'a>> {
         name: session.word.bytes(),
         session: bytes.bytes(),
         asked: asked_by(asked.word.bytes())?,
-        at: step_of(at.word.bytes())?,
+        at: step_named(at.word.bytes())?,
     })
 }
 
@@ -47,12 +47,4 @@ fn asked_by(word: &[u8]) -> Option<Asked> {
         b"lists" => Some(Asked::Lists),
         _ => None,
     }
-}
-
-// The step that a word names: none where it is `-`; `None` where it is neither.
-fn step_of(word: &[u8]) -> Option<Option<u64>> {
-    if word == b"-".as_slice() {
-        return Some(None);
-    }
-    Some(Some(number(word)?))
 }

@@ -1,27 +1,25 @@
 // The run up to a moment, and its last steps once more.
+ghost use Rattle.std.specs.Prelude.{◌≡◌, ◌≤◌, OnOk};
 ghost use Rattle.session_text.specs.Canonical.{IsLawful};
+ghost use Rattle.kernel_model.specs.KernelRecord.Ranges.{most_steps};
+ghost use Rattle.tripos_machine.specs.State.{steps_of};
 
+use crate::no_machines::{RunEnd, entries_of, machine_of, session_of, told_end};
 use crate::single_steps::{former_store, take_step, take_unheard};
 use crate::typed_words::gathered::Gathered;
 use crate::typed_words::machines::machine_after;
-use crate::worded_moment::refusals::{MomentEnd, told_end};
 use crate::worded_moment::requests::{Asked, Request, request_of};
 use byte_streams::{Output, SinkFault};
 use log_words::{StepLists, read_step};
-use module_text::TextEnd;
 use run_names::{PacketsOut, known_programs};
-use session_text::{BootEnd, Session, read_session};
+use session_text::Session;
 use state_text::gather_state;
 use state_words::trails::Trails;
 use state_words::{Scene, View};
 use std::alloc::{AllocError, Global};
 use text_sinks::TextSink;
-use tool_bundles::{BundleEnd, read_bundle};
 use tool_texts::ToolText;
-use tripos_machine::{Machine, boot};
-
-/// A text of so many bytes, or more, is not read: it gets no memory.
-const TOO_LONG: usize = 1 << 30;
+use tripos_machine::Machine;
 
 /// The state of the session that a bundle names, after the steps that it names, or the lists of its kernel then, in words; or why nothing is
 /// told of it.
@@ -31,47 +29,17 @@ pub(crate) fn worded_moment(alloc: Global, bundle: &[u8]) -> Result<ToolText, Al
             is_wrong: false,
             bytes,
         }),
-        Err(end) => told_end(alloc, end),
+        Err(end) => told_end(alloc, b"state", end),
     }
 }
 
 // The words that a bundle asks for.
-fn told_text(alloc: Global, bundle: &[u8]) -> Result<Vec<u8>, MomentEnd> {
-    let entries = match read_bundle(alloc, bundle) {
-        Ok(entries) => entries,
-        Err(BundleEnd::NoBundle) => return Err(MomentEnd::NoRequest),
-        Err(BundleEnd::WantMemory) => return Err(MomentEnd::WantMemory),
-    };
-    match request_of(entries.as_slice()) {
-        Some(request) => session_text(alloc, request),
-        None => Err(MomentEnd::NoRequest),
-    }
-}
-
-// The words of a session.
-fn session_text(alloc: Global, request: Request) -> Result<Vec<u8>, MomentEnd> {
-    if request.session.len() >= TOO_LONG {
-        return Err(MomentEnd::WantMemory);
-    }
-    match read_session(alloc, request.session) {
-        Ok(session) => run_text(alloc, request, &session),
-        Err(TextEnd::Bad { line, code }) => Err(MomentEnd::NotRead { line, code }),
-        Err(TextEnd::WantMemory) => Err(MomentEnd::WantMemory),
-    }
-}
-
-// The words of its run.
-fn run_text(alloc: Global, request: Request, session: &Session) -> Result<Vec<u8>, MomentEnd>
-    requires { IsLawful session.now }
-{
-    match boot(alloc, session) {
-        Ok(mut machine) => {
-            let text = machine_text(alloc, request, session, &mut machine)?;
-            Ok(text)
-        }
-        Err(BootEnd::Line { line, code }) => Err(MomentEnd::NoBoot { line, code }),
-        Err(BootEnd::WantMemory) => Err(MomentEnd::WantMemory),
-    }
+fn told_text(alloc: Global, bundle: &[u8]) -> Result<Vec<u8>, RunEnd> {
+    let entries = entries_of(alloc, bundle)?;
+    let request = request_of(entries.as_slice()).ok_or(RunEnd::NoRequest)?;
+    let session = session_of(alloc, request.session)?;
+    let mut machine = machine_of(alloc, &session)?;
+    Ok(machine_text(alloc, request, &session, &mut machine)?)
 }
 
 // The words of a machine that was booted just now, after its steps.
@@ -81,7 +49,9 @@ fn machine_text(
     session: &Session,
     machine: &mut Machine,
 ) -> Result<Vec<u8>, AllocError>
-    requires { IsLawful session.now }
+    requires lawful { IsLawful session.now }
+    requires begins { steps_of machine.old.state ≡ 0 }
+    ensures { OnOk result (steps_of machine.new.state ≤ session.now.go) }
 {
     let steps = request.at.unwrap_or(session.go).min(session.go);
     let mut out = PacketsOut::new(alloc);
@@ -98,7 +68,8 @@ fn moment_text<'a>(
     machine: &'a Machine,
     out: &'a PacketsOut,
 ) -> Result<Vec<u8>, AllocError>
-    requires { IsLawful session.now }
+    requires lawful { IsLawful session.now }
+    requires few { steps_of machine.now.state ≤ session.now.go }
 {
     let programs = known_programs(alloc, session)?;
     let state = plain_state(alloc, machine)?;
@@ -131,7 +102,8 @@ fn plain_state(alloc: Global, machine: &Machine) -> Result<Vec<u8>, AllocError> 
 
 // Adds what is asked for of a machine. The lists need none of its last steps.
 fn push_scene(alloc: Global, asked: Asked, view: View, text: &mut Vec<u8>) -> Result<(), AllocError>
-    requires { IsLawful view.session.now }
+    requires lawful { IsLawful view.session.now }
+    requires few { view.steps ≤ most_steps }
 {
     let mut scene = Scene::new(alloc, view)?;
     match asked {
@@ -147,7 +119,8 @@ fn push_scene(alloc: Global, asked: Asked, view: View, text: &mut Vec<u8>) -> Re
 
 // Looks through the steps from the first to the last that a machine has taken.
 fn look_back(alloc: Global, view: View, first: u64, trails: &mut Trails) -> Result<(), AllocError>
-    requires { IsLawful view.session.now }
+    requires lawful { IsLawful view.session.now }
+    requires few { view.steps ≤ most_steps }
 {
     let before = first.saturating_sub(1).min(view.session.go);
     let mut machine = machine_after(alloc, view.session, before)?;
@@ -170,11 +143,13 @@ fn look_back(alloc: Global, view: View, first: u64, trails: &mut Trails) -> Resu
 }
 
 // Takes the steps from here on in which nobody runs and no device acts, up to the last step at most: nothing is to be kept of them.
-fn take_idle(alloc: Global, last: u64, machine: &mut Machine) -> Result<(), AllocError> {
-    if machine.stop().is_some() {
+fn take_idle(alloc: Global, last: u64, machine: &mut Machine) -> Result<(), AllocError>
+    requires { last ≤ most_steps }
+{
+    if machine.stop().is_some() || machine.steps() >= last {
         return Ok(());
     }
-    let left = last.saturating_sub(machine.steps());
+    let left = last - machine.steps();
     take_unheard(
         machine.idle_steps().min(left),
         machine,

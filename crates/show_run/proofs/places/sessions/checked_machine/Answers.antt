@@ -1,7 +1,7 @@
 use Rattle.show_run.proofs.places.sessions.checked_machine.Goals as goal
 
 pub returns-in-Ok : goal.returns-in-Ok
-returns-in-Ok g c = rw c.in-Ok.ensures c.booted_machine.ensures
+returns-in-Ok c = rw c.in-Ok.ensures c.booted_machine.ensures
 
 pub returns-in-Err : goal.returns-in-Err
-returns-in-Err g c = rw c.in-Err.ensures
+returns-in-Err c = rw c.in-Err.ensures

@@ -12,11 +12,11 @@ abbrev begun : Bool → Option (List State)
 begun b = if b then Some [] else None
 
 pub returns-then-not-goes_back : goal.returns-then-not-goes_back
-returns-then-not-goes_back g c =
+returns-then-not-goes_back c =
     subst (λ past. Gives (λ (m : MachineView). m.state) c.machine_forward.result (Ok (debugged c.args.budget (lines_of c.args.lines.now) c.args.machine.state past).after.state)) (ap begun c.if-not-goes_back.ensures)
     c.machine_forward.ensures
 
 pub returns-in-Ok : goal.returns-in-Ok
-returns-in-Ok g c =
+returns-in-Ok c =
     subst (λ past. Gives (λ (m : MachineView). m.state) c.machine_both_ways.result (Ok (debugged c.args.budget (lines_of c.args.lines.now) c.args.machine.state past).after.state)) (ap begun c.if-not-goes_back.ensures)
     c.machine_both_ways.ensures
