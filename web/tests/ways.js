@@ -247,7 +247,8 @@ const ways = {
     await open_example('hello');
     const wrong = (await session()).replace(/^STORE /m, 'STOER ').replace(/^GO /m, 'GO 0x');
     await set('#session', wrong);
-    await run_page();
+    await tab.click('#run');
+    await tab.until("/refused/.test(document.getElementById('ending').textContent)");
     const told = answered('tripos_show', ['errors'], `word 7\nsession\nfile 0 ${wrong.length}\n\n${wrong}\n`);
     same('both lines are in error', [...told.matchAll(/^line [0-9]+: /gm)].length, 2);
     same('the first error is said', (await text_of('#ending')).includes(`${told.split('\n')[0]}.`), true);
