@@ -8,4 +8,4 @@ use Rattle.show_run.proofs.tellings.answer_text.Goals as goal
 pub returns-in-Ok-clause-answer : goal.returns-in-Ok-clause-answer
 returns-in-Ok-clause-answer g c =
     let given = told_of c.in-Ok.told in
-    Answered-by (IsTold c.args.asked c.args.text.now) (told_answer given) (given, c.tell.ensures, refl) _ _ c.write_told.result c.write_told.ensures.answer
+    Answered-by (IsTold c.args.asked c.args.text.now) (told_answer given) (given, c.in-Ok.ensures, refl) _ _ c.write_told.result c.write_told.ensures.answer
