@@ -11,7 +11,7 @@ import { duration, hex_rows, save_as } from './text.js';
 import { command_for, known_session, made_of, session_now } from './work.js';
 
 // the kind of the text that a command reads, for the tool that says what is wrong in it
-const KINDS = new Map([['run', 'session'], ['dump', 'session'], ['trace', 'session'], ['ring', 'ring']]);
+const TEXT_KINDS = new Map([['run', 'session'], ['dump', 'session'], ['trace', 'session'], ['ring', 'ring']]);
 
 const COMMANDS = [['run', 'what it writes'], ['dump', 'and the words of the store'], ['trace', 'the events of the kernel']];
 
@@ -37,8 +37,8 @@ export async function run_now() {
 
 /** What is wrong in a text that was refused, in words, each error with its line; or null where that is not known. */
 async function errors_of(text, command, letters) {
-  if (!refusal_in(letters) || !KINDS.has(command)) return null;
-  return (await ask('tripos_show', ['errors'], word(KINDS.get(command)) + file_word('', text), 'what is wrong is looked for')).text;
+  if (!refusal_in(letters) || !TEXT_KINDS.has(command)) return null;
+  return (await ask('tripos_show', ['errors'], word(TEXT_KINDS.get(command)) + file_word('', text), 'what is wrong is looked for')).text;
 }
 
 /** The line of the instruction that faulted, where the fault names a byte and the line is known; else null. */
