@@ -1,4 +1,5 @@
 // What the browser keeps of the user's work, and a run as the address of the page.
+import { asked_of } from './many_runs.js';
 import { is_project } from './project.js';
 import { change, state, watch } from './state.js';
 import { after_pause } from './elements.js';
@@ -10,17 +11,17 @@ const BEFORE = 'kijolpe.before';
 export const LONGEST_ADDRESS = 60000;
 
 /** The work as plain data, and nothing else of the state. */
-function work_now() {
-  const { project, own, command } = state;
-  return { project, own, command };
+export function work_now() {
+  const { project, own, command, many } = state;
+  return { project, own, command, many };
 }
 
 /** The work that a text of JSON has, or null where it is none. */
 export function work_of_json(text) {
   try {
-    const { project, own, command } = JSON.parse(text);
+    const { project, own, command, many } = JSON.parse(text);
     if (!is_project(project) || (own !== null && typeof own !== 'string')) return null;
-    return { project, own, command: ['run', 'dump', 'trace'].includes(command) ? command : 'run' };
+    return { project, own, command: ['run', 'dump', 'trace', 'outcomes'].includes(command) ? command : 'run', many: asked_of(many) };
   } catch {
     return null;
   }
@@ -123,6 +124,6 @@ export function begin_keeping() {
     keep(KEPT, JSON.stringify(work_now()));
     show_in_address();
   });
-  watch(['project', 'own', 'command'], keep_now);
+  watch(['project', 'own', 'command', 'many'], keep_now);
   keep_now();
 }

@@ -1,6 +1,6 @@
 // Opens other work in place of what is there, without throwing anything away.
 import { ask_user } from './dialogs.js';
-import { earlier_work, keep_as_earlier } from './memory.js';
+import { earlier_work, keep_as_earlier, work_now } from './memory.js';
 import { empty_project, open_project } from './project.js';
 import { run_now } from './run.js';
 import { change, state } from './state.js';
@@ -8,8 +8,7 @@ import { save_as } from './text.js';
 
 /** All of the user's work as the text of a file. */
 function work_text() {
-  const { project, own, command } = state;
-  return `${JSON.stringify({ project, own, command }, null, 1)}\n`;
+  return `${JSON.stringify(work_now(), null, 1)}\n`;
 }
 
 /** Saves all of the user's work to a file. */

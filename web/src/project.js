@@ -1,4 +1,5 @@
 // What the user writes: files, and a machine that is made of them. All of it is plain data, so that it can be kept and sent as JSON.
+import { FIRST_ASKED } from './many_runs.js';
 import { change, state } from './state.js';
 
 /**
@@ -115,10 +116,10 @@ export function toggle_break(file, line) {
 }
 
 /** Opens a project in place of the one that is there. */
-export function open_project(project, { own = null, command = 'run', view = 'programs' } = {}) {
+export function open_project(project, { own = null, command = 'run', many = FIRST_ASKED, view = 'programs' } = {}) {
   const open = project.files[0]?.name ?? '';
   change({
-    project, own, command, open, opened: state.opened + 1, shape: state.shape + 1, side: own !== null ? 'session'
+    project, own, command, many, open, opened: state.opened + 1, shape: state.shape + 1, side: own !== null ? 'session'
       : project.page?.startsWith('course/') ? 'page' : 'machine', run: null, breaks: [], step: 0, moment: null, story: null,
     cursor: 0, is_changed: false, view,
   });

@@ -3,6 +3,7 @@ import { ask, Stopped, stop_all } from './asking.js';
 import { file_word, word } from './bundle.js';
 import { closing_of, ending_in_words, meaning, refusal_in } from './codes.js';
 import { button, choice, fill, make } from './elements.js';
+import { many_runs_row, outcomes_in_words, outcomes_of, variant_of } from './many_runs.js';
 import { state_at } from './moment.js';
 import { line_at, loaded_programs, programs_of } from './places.js';
 import { cut_for_show, screen_text } from './screen.js';
@@ -11,9 +12,14 @@ import { duration, hex_rows, save_as } from './text.js';
 import { command_for, known_session, made_of, session_now } from './work.js';
 
 // the kind of the text that a command reads, for the tool that says what is wrong in it
-const TEXT_KINDS = new Map([['run', 'session'], ['dump', 'session'], ['trace', 'session'], ['ring', 'ring']]);
+const TEXT_KINDS = new Map([['run', 'session'], ['dump', 'session'], ['trace', 'session'], ['outcomes', 'session'],
+  ['ring', 'ring']]);
 
-const COMMANDS = [['run', 'what it writes'], ['dump', 'and the words of the store'], ['trace', 'the events of the kernel']];
+// how many outcomes can be opened by a button
+const MOST_OFFERED = 12;
+
+const COMMANDS = [['run', 'what it writes'], ['dump', 'and the words of the store'], ['trace', 'the events of the kernel'],
+  ['outcomes', 'what many runs come to']];
 
 /** Runs the session that is there now. */
 export async function run_now() {
@@ -25,13 +31,29 @@ export async function run_now() {
     }
     const command = command_for(text, state.command);
     change({ run: { ...state.run, is_running: true } });
-    const { status, bytes, text: letters, milliseconds } = await ask('tripos', [command], text, 'the session runs');
-    const run = { input: text, command, status, bytes, letters, milliseconds, errors: await errors_of(text, command, letters) };
+    const { status, bytes, text: letters, milliseconds, firsts, asked } = await answer_of(command, text);
+    const run = { input: text, command, status, bytes, letters, milliseconds, firsts, asked, errors: await errors_of(text, command, letters) };
     change({ run });
     const place = await place_of_fault(text, letters);
     if (place && state.run === run) change({ run: { ...run, place } });
   } catch (error) {
     change({ run: { failed: error instanceof Stopped ? 'Stopped: the run was ended before its end, and nothing of it is kept.' : error.message } });
+  }
+}
+
+/** What the program answers to a text. */
+function answer_of(command, text) {
+  return command === 'outcomes' ? outcomes_of(text, state.many) : ask('tripos', [command], text, 'the session runs');
+}
+
+/** Runs the session with the first value of an outcome, as the user's own text. */
+async function run_with({ input, asked }, value) {
+  try {
+    const own = await variant_of(input, asked, value);
+    change({ own, side: 'session', command: 'run', is_changed: true });
+    await run_now();
+  } catch (error) {
+    if (!(error instanceof Stopped)) change({ notice: error.message });
   }
 }
 
@@ -58,6 +80,7 @@ export function ending_of({ failed, letters, status, command, errors }) {
     const why = errors?.split('\n')[0] ?? `line ${refused.line}: ${meaning(command, refused.code)} (code ${refused.code})`;
     return { words: `${refused.is_boot ? 'The machine does not boot' : 'The text is refused'}: ${why}.`, is_bad: true, line: refused.line };
   }
+  if (command === 'outcomes' && status === 0) return { words: outcomes_in_words(letters), is_bad: false };
   const closing = closing_of(letters);
   if (closing) return { words: ending_in_words(closing), is_bad: status === 10 };
   const ring = ring_closing(letters);
@@ -125,7 +148,8 @@ export function run_pane({ show_line, show_place }) {
     if (run.errors) { fill(output, run.errors); fill(said); return; }
     const { shown, said: cut } = cut_for_show(run.letters, run.bytes.length);
     fill(output, ['run', 'resume', 'ring'].includes(run.command) ? screen_text(written_before_closing(shown)) : screen_text(shown));
-    fill(said, cut);
+    fill(said, cut, run.firsts ? ['One of these runs: ', run.firsts.slice(0, MOST_OFFERED).map((value) =>
+      button(`with ${value}`, () => run_with(run, value), { class: 'link', 'data-value': value }))] : null);
   }
 
   watch(['run', 'made', 'own'], show);
@@ -133,5 +157,5 @@ export function run_pane({ show_line, show_place }) {
   show();
   show_commands();
   return make('section', { class: 'card console', 'aria-label': 'Run' },
-    make('div', { class: 'bar' }, run_button, stop_button, chosen, make('span', { class: 'grow' }), hex_button, save_button), ending, output, said);
+    make('div', { class: 'bar' }, run_button, stop_button, chosen, make('span', { class: 'grow' }), hex_button, save_button), many_runs_row(), ending, output, said);
 }

@@ -22,8 +22,10 @@ export const state = {
   notes: new Map(),
   /** what the form makes: see session.js */
   made: null,
-  /** which command runs the session: run, dump or trace */
+  /** which command runs the session: run, dump or trace; or outcomes, for many runs */
   command: 'run',
+  /** what many runs are asked for: see many_runs.js */
+  many: null,
   /** the last run: its input, command, status, bytes and milliseconds, or a sentence in `failed` */
   run: null,
   /** the breakpoints, each `{file, line}` */

@@ -188,6 +188,60 @@ const ways = {
     same('its code is in the session', made.includes(code), true);
   },
 
+  async 'many runs'() {
+    await open_example('lost-update');
+    const made = await session();
+    writeFileSync(join(folder, 'many'), made);
+    const table_by = (...words) => {
+      try {
+        return written_by('bin/tries', join(folder, 'many'), ...words).replace(join(folder, 'many'), 'this session');
+      } catch (error) {
+        // its status says whether there is more than one outcome
+        return error.stdout.replace(join(folder, 'many'), 'this session');
+      }
+    };
+    const shows = async (words, ...wanted) => {
+      await tab.click('#run');
+      await tab.until(`document.getElementById('ending').textContent.includes(${JSON.stringify(words)})`, 30);
+      same(`what is shown with: ${words}`, await text_of('#console'), wanted.length > 0 ? table_by(...wanted) : '');
+    };
+    await set('#command', 'outcomes', 'change');
+    await tab.until("!document.getElementById('many').hidden");
+    await set('#many-values', '20-60, 100');
+    await shows('The runs come to 2 outcomes.', '--tick', '20-60,100');
+    const to_form = async () => {
+      await tab.click('#to-form');
+      await tab.until("document.querySelector('dialog[open]') !== null");
+      await tab.click('dialog[open] .choices button:last-child');
+    };
+    await tab.click('.said [data-value="42"]');
+    await tab.until("document.getElementById('session').value.includes('TICK 42')");
+    await tab.until("document.getElementById('console').textContent.length === 1");
+    const own = await value_of('#session');
+    same('the session with the value of an outcome', own,
+      answered('tripos_show', ['variant'], `word 4\ntick\nword 2\n42\nfile 12 ${made.length}\nthis session\n${made}\n`));
+    same('its run', await text_of('#console'), before_closing(answered('tripos', ['run'], own)));
+    await to_form();
+    await set('#command', 'outcomes', 'change');
+    await set('#many-values', '20-41');
+    await shows('Each run comes to the same.', '--tick', '20-41');
+    await set('#many-what', 'stack', 'change');
+    await set('#many-number', '6');
+    await set('#many-values', '19-25');
+    await shows('The runs come to 2 outcomes.', '--stack', '6', '19-25');
+    await set('#many-number', '9');
+    await shows('this session has the tasks 6, 5, and no task 9');
+    await set('#many-values', '20-x');
+    await shows('and not 20-x');
+    await set('#session', made.replace(/^TICK .*/m, 'TICK 0'));
+    await set('#many-values', '20');
+    await tab.click('#run');
+    await tab.until("document.getElementById('ending').textContent.includes('The text is refused')");
+    same('what is wrong in a refused text', /:\s*line [0-9]+: /.test(await text_of('#ending')), true);
+    await to_form();
+    await set('#command', 'run', 'change');
+  },
+
   async 'steps forth and back'() {
     await open_example('recursion');
     const made = await session();

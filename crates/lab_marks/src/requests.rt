@@ -1,7 +1,7 @@
 // What a bundle asks for.
 
 use module_text::number;
-use tool_bundles::{Content, Entry};
+use tool_bundles::Entry;
 use tool_texts::Lent;
 
 /// The most digits of a student's number.
@@ -100,11 +100,8 @@ fn handed_number(digits: &[u8]) -> Option<i64> {
 
 // The file that a word names.
 fn named_file<'a>(entry: &Entry<'a>) -> Option<NamedFile<'a>> {
-    match &entry.content {
-        Content::Bytes(bytes) => Some(NamedFile {
-            path: entry.word.again(),
-            bytes: bytes.again(),
-        }),
-        Content::Nothing | Content::Unread => None,
-    }
+    Some(NamedFile {
+        path: entry.word.again(),
+        bytes: entry.file()?,
+    })
 }

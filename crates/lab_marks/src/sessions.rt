@@ -1,4 +1,6 @@
 // The words of a session, as the line of a mark has them.
+ghost use Rattle.std.specs.Prelude.{◌≡◌};
+ghost use Rattle.lab_marks.specs.declared.sessions.WordEnd.TheVariants.{WantMemory};
 
 use crate::cuts::cut;
 use crate::ends::Hindered;
@@ -18,6 +20,8 @@ enum WordEnd {
 }
 
 impl From<AllocError> for WordEnd {
+    ghost from_gives = { λ _ e. e ≡ WantMemory };
+
     fn from(_: AllocError) -> WordEnd {
         WordEnd::WantMemory
     }

@@ -1,4 +1,6 @@
 // Why a tool does not give what is asked for.
+ghost use Rattle.std.specs.Prelude.{◌≡◌};
+ghost use Rattle.lab_marks.specs.declared.stops.Stop.TheVariants.{WantMemory};
 
 use crate::ends::Hindered;
 use crate::wrongs::{Wrong, push_words};
@@ -27,12 +29,16 @@ pub enum Stop<'a> {
 }
 
 impl<'a, T: Drop> From<AllocFailed<T>> for Stop<'a> {
+    ghost from_gives = { λ _ e. e ≡ WantMemory };
+
     fn from(_: AllocFailed<T>) -> Stop<'a> {
         Stop::WantMemory
     }
 }
 
 impl<'a> From<AllocError> for Stop<'a> {
+    ghost from_gives = { λ _ e. e ≡ WantMemory };
+
     fn from(_: AllocError) -> Stop<'a> {
         Stop::WantMemory
     }

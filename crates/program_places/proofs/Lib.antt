@@ -1,0 +1,2 @@
+pub mod HunkWords
+pub mod Sound

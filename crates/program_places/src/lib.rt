@@ -3,12 +3,14 @@
 
 pub mod addresses;
 pub mod answers;
+mod drafts;
+pub mod laws;
 pub mod lines;
-pub mod lists;
 pub mod loaded;
 pub mod maps;
 pub mod reading;
 pub mod requests;
+mod statements;
 pub mod wrongs;
 
 pub use addresses::addresses_of;

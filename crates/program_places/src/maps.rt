@@ -1,8 +1,8 @@
 // What a map says.
 ghost use Rattle.std.specs.Prelude.{◌≡◌, []};
 
-use crate::lists::Listed;
 use std::alloc::Global;
+use tool_bundles::Listed;
 use tool_texts::Lent;
 
 /// The map of a session: where the lines of its programs are.

@@ -1,7 +1,7 @@
 // What a bundle asks for.
 ghost use Rattle.std.specs.Prelude.{◌≡◌};
 
-use tool_bundles::{Content, Entries, Entry};
+use tool_bundles::{Entries, Entry};
 use tool_texts::Lent;
 
 /// The line by which a session is run to its end.
@@ -31,25 +31,17 @@ pub fn request_of<'a>(entries: &'a [Entry<'a>]) -> Option<Request<'a>> {
         return None;
     }
     Some(Request {
-        session: file_of(session)?,
+        session: session.file()?,
         map_path: map.word.again(),
-        map: file_of(map)?,
+        map: map.file()?,
         lines: lines_of(lines)?,
         places: Entries::new(places),
     })
 }
 
-// The bytes of the file that a word names.
-fn file_of<'a>(entry: &Entry<'a>) -> Option<Lent<'a>> {
-    match &entry.content {
-        Content::Bytes(bytes) => Some(bytes.again()),
-        Content::Nothing | Content::Unread => None,
-    }
-}
-
 // The lines of the debugger.
 fn lines_of<'a>(entry: &Entry<'a>) -> Option<Lent<'a>> {
-    if let Some(lines) = file_of(entry) {
+    if let Some(lines) = entry.file() {
         return Some(lines);
     }
     if entry.word.bytes() == b"-".as_slice() {

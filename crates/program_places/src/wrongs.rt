@@ -1,7 +1,8 @@
 // What is wrong in a bundle or its map, in words.
 ghost use Rattle.std.specs.Prelude.{◌≡◌};
 
-use crate::reading::{BAD_NUMBER, CUT_OFF};
+use crate::reading::CUT_OFF;
+use crate::statements::BAD_NUMBER;
 use std::alloc::{AllocError, Global};
 use tool_texts::Said::{Bytes, Number};
 use tool_texts::{Lent, Said, ToolText, push_sentence};

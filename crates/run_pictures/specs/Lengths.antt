@@ -1,5 +1,9 @@
 -- Lengths, in billionths of a pixel.
-use Rattle.std.specs.Prelude.{ℕ, ◌+◌, ◌/◌, ◌%◌, ◌==◌, ◌&&◌, ◌||◌, nat_lt, if◌then◌else◌}
+use Rattle.std.specs.Prelude.{ℕ, ◌+◌, ◌-◌, ◌^◌, ◌/◌, ◌%◌, ◌==◌, ◌&&◌, ◌||◌, min, nat_lt, if◌then◌else◌}
+
+-- so many parts, or the most that a length has
+abbrev pub at_most : ℕ → ℕ
+at_most parts = min parts (2 ^ 64 - 1)
 
 -- whole tenths, or one more where so much is left: the nearest, and of two that are as near the even one
 abbrev pub rounded : ℕ → ℕ → ℕ

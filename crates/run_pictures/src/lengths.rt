@@ -1,6 +1,6 @@
 // Lengths on a picture.
-ghost use Rattle.std.specs.Prelude.{◌≡◌};
-ghost use Rattle.run_pictures.specs.Lengths.{in_tenths};
+ghost use Rattle.std.specs.Prelude.{◌≡◌, ◌+◌, ◌-◌, ◌*◌, ◌/◌, max};
+ghost use Rattle.run_pictures.specs.Lengths.{at_most, in_tenths};
 
 use std::ops::{Add, Sub};
 
@@ -21,15 +21,19 @@ pub struct Length {
 }
 
 impl Length {
-    /// So many pixels.
-    pub fn pixels(count: u64) -> Length {
+    /// So many pixels, or the greatest length.
+    pub fn pixels(count: u64) -> Length
+        ensures { result.parts ≡ at_most (count * 1000000000) }
+    {
         Length {
             parts: count.saturating_mul(PIXEL),
         }
     }
 
-    /// So many tenths of a pixel.
-    pub fn tenths(count: u64) -> Length {
+    /// So many tenths of a pixel, or the greatest length.
+    pub fn tenths(count: u64) -> Length
+        ensures { result.parts ≡ at_most (count * 100000000) }
+    {
         Length {
             parts: count.saturating_mul(TENTH),
         }
@@ -47,28 +51,36 @@ impl Length {
         whole
     }
 
-    /// It so many times.
-    pub fn times(self, count: u64) -> Length {
+    /// It so many times, or the greatest length.
+    pub fn times(self, count: u64) -> Length
+        ensures { result.parts ≡ at_most (self.parts * count) }
+    {
         Length {
             parts: self.parts.saturating_mul(count),
         }
     }
 
     /// One of so many equal parts of it, without what is left over; all of it where the number is 0.
-    pub fn part(self, count: u64) -> Length {
+    pub fn part(self, count: u64) -> Length
+        ensures { result.parts ≡ self.parts / max count 1 }
+    {
         Length {
             parts: self.parts / count.max(1),
         }
     }
 
-    /// How often another length goes into it.
-    pub fn count_of(self, other: Length) -> u64 {
+    /// How often another length goes into it; one without any part counts as one part.
+    pub fn count_of(self, other: Length) -> u64
+        ensures { result ≡ self.parts / max other.parts 1 }
+    {
         self.parts / other.parts.max(1)
     }
 }
 
 impl Add for Length {
     type Output = Length;
+
+    ghost add_gives = { λ a b r. r.parts ≡ at_most (a.parts + b.parts) };
 
     fn add(self, other: Length) -> Length {
         Length {
@@ -79,6 +91,8 @@ impl Add for Length {
 
 impl Sub for Length {
     type Output = Length;
+
+    ghost sub_gives = { λ a b r. r.parts ≡ a.parts - b.parts };
 
     fn sub(self, other: Length) -> Length {
         Length {

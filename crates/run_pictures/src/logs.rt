@@ -1,4 +1,6 @@
 // A log, line by line.
+ghost use Rattle.std.specs.Prelude.{◌≡◌};
+ghost use Rattle.run_pictures.specs.declared.logs.NoLog.TheVariants.{WantMemory};
 
 use crate::log_lines::{Event, Head, LogLine, LoggedMachine, TaskLine, head_of, log_line};
 use module_text::split_line;
@@ -33,12 +35,16 @@ pub enum NoLog {
 }
 
 impl<T: Drop> From<AllocFailed<T>> for NoLog {
+    ghost from_gives = { λ _ e. e ≡ WantMemory };
+
     fn from(_: AllocFailed<T>) -> NoLog {
         NoLog::WantMemory
     }
 }
 
 impl From<AllocError> for NoLog {
+    ghost from_gives = { λ _ e. e ≡ WantMemory };
+
     fn from(_: AllocError) -> NoLog {
         NoLog::WantMemory
     }

@@ -4,14 +4,13 @@ ghost use Rattle.session_making.specs.Bare.{add_code, add_program, add_programs,
 ghost use Rattle.session_making.specs.Ends.{Gives};
 
 use crate::ends::Hindered;
-use crate::lists::Listed;
 use crate::modules::file_module;
 use crate::notes::globals_note;
 use crate::tables::{global_numbers, hunk_code};
 use crate::wrongs::Wrong;
 use module_text::Hunk;
 use std::alloc::{AllocError, Global};
-use tool_bundles::Entry;
+use tool_bundles::{Entry, Listed};
 use tool_texts::Lent;
 
 /// The word of the store at which the code of a bare machine begins.

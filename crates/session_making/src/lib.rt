@@ -5,7 +5,6 @@ pub mod bare;
 pub mod ends;
 pub mod items;
 pub mod laws;
-pub mod lists;
 pub mod makings;
 pub mod modules;
 pub mod notes;

@@ -7,7 +7,6 @@ ghost use Rattle.session_making.specs.Makings.{add_each, add_file, add_item, add
 
 use crate::ends::Hindered;
 use crate::items::Item;
-use crate::lists::Listed;
 use crate::modules::file_bytes;
 use crate::notes::{Clash, NOTE, clash_notes, short_note, start_note};
 use crate::programs::{
@@ -21,7 +20,7 @@ use ram_disc::Name;
 use session_text::{Bytes, Names};
 use std::alloc::{AllocError, Global};
 use std::slice::from_ref;
-use tool_bundles::{Entries, Entry};
+use tool_bundles::{Entries, Entry, Listed};
 use tool_texts::Said::{Bytes as Said, Number};
 use tool_texts::{Lent, push_sentence};
 

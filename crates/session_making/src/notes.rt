@@ -5,10 +5,9 @@ ghost use Rattle.std.specs.Option.{option_copied};
 ghost use Rattle.std.specs.Str.{bytes_eq};
 ghost use Rattle.session_making.specs.Notes.{add_clash, are_same, are_several, clash_note, clash_notes, clashes_after, file_clashes, globals_in, globals_note, idle_note, is_told, no_clashes, no_start_note, note_clash, notes_after, number_text, numbers_text, one_clash, set_by, setter_in, several_clashes, short_note, source_at, start_note};
 
-use crate::lists::Listed;
 use crate::programs::Source;
 use std::alloc::{AllocError, Global};
-use tool_bundles::Entry;
+use tool_bundles::{Entry, Listed};
 use tool_texts::Said::{Bytes, Number};
 use tool_texts::{Lent, push_sentence};
 

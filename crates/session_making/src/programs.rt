@@ -8,7 +8,6 @@ ghost use Rattle.session_making.specs.Ends.{Gives};
 ghost use Rattle.session_making.specs.Programs.{add_program, base_name, check_count, file_name, file_named, joined, joined_paths, known_program, name_of, new_program, plain_name, program_name, without_end};
 
 use crate::ends::Hindered;
-use crate::lists::Listed;
 use crate::makings::Making;
 use crate::modules::{file_module, printed_text};
 use crate::tables::{global_numbers, is_in};
@@ -17,7 +16,7 @@ use module_text::{Hunk, Hunks, Module, WordList};
 use ram_disc::Name;
 use session_text::Bytes;
 use std::alloc::{AllocError, Global};
-use tool_bundles::Entry;
+use tool_bundles::{Entry, Listed};
 use tool_texts::Lent;
 
 /// The most files of a machine.

@@ -8,7 +8,6 @@ ghost use Rattle.session_making.specs.Tool.{bare_text, check_read, entries_text,
 use crate::bare::bare_code;
 use crate::ends::Hindered;
 use crate::items::item_of;
-use crate::lists::Listed;
 use crate::makings::{Frame, Making, Typed, add_item};
 use crate::notes::idle_note;
 use crate::refusals::refused_text;
@@ -19,7 +18,7 @@ use crate::wrongs::Wrong;
 use module_text::TextEnd;
 use session_text::{Session, read_session};
 use std::alloc::{AllocError, Global};
-use tool_bundles::{BundleEnd, Entry, read_bundle};
+use tool_bundles::{BundleEnd, Entry, Listed, read_bundle};
 use tool_texts::{Lent, ToolText};
 
 /// A text of so many bytes, or more, is not read: it gets no memory.

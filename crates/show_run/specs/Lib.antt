@@ -9,6 +9,7 @@ pub mod InputAnswers
 pub mod Leaves
 pub mod Tellings
 pub mod ValueTries
+pub mod ToldTries
 pub mod Places
 pub mod TypedWords
 pub mod RefusedTexts

@@ -6,7 +6,7 @@ use Rattle.told_answers.specs.ToldAnswers.{told_answer}
 use Rattle.tool_texts.specs.Told.{Told}
 use Rattle.show_run.specs.RefusedTexts.Answers.{AreErrors}
 use Rattle.show_run.specs.declared.tellings.Telling.{Telling}
-use Rattle.show_run.specs.declared.tellings.Telling.TheVariants.{Errors, Events, Moment, Places, Words}
+use Rattle.show_run.specs.declared.tellings.Telling.TheVariants.{Errors, Events, Moment, Outcomes, Places, Variant, Words}
 
 -- what a word asks for, if it asks for something
 abbrev pub telling_named : List ℕ → Option Telling
@@ -16,6 +16,8 @@ telling_named word =
     if bytes_eq word (codes "events") then Some Events else
     if bytes_eq word (codes "moment") then Some Moment else
     if bytes_eq word (codes "errors") then Some Errors else
+    if bytes_eq word (codes "outcomes") then Some Outcomes else
+    if bytes_eq word (codes "variant") then Some Variant else
     None
 
 -- what all words together ask for, if they ask for something

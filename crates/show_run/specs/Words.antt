@@ -47,4 +47,4 @@ show_of _ = None
 
 -- what is said where the words ask for nothing
 abbrev pub usage_text : List ℕ
-usage_text = codes "* usage: tripos_show state, log or log FIRST LAST, writes A or writes A FIRST LAST, places, words, events, moment, errors, tries tick, key K, priority TASK or stack TASK, and values: N or N-M\n"
+usage_text = codes "* usage: tripos_show state, log or log FIRST LAST, writes A or writes A FIRST LAST, places, words, events, moment, errors, outcomes, variant, tries tick, key K, priority TASK or stack TASK, and values: N or N-M\n"

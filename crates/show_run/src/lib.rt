@@ -14,6 +14,7 @@ pub mod refused_texts;
 mod single_steps;
 pub mod step_log;
 pub mod tellings;
+pub mod told_tries;
 pub mod typed_words;
 mod value_tries;
 pub mod word_writes;

@@ -3,6 +3,7 @@ ghost use Rattle.std.specs.Prelude.{◌≡◌, ◌≤◌, IfOk};
 ghost use Rattle.session_text.specs.Canonical.{IsLawful};
 ghost use Rattle.kernel_model.specs.KernelRecord.Ranges.{most_steps};
 ghost use Rattle.tripos_machine.specs.State.{steps_of};
+ghost use Rattle.show_run.specs.TypedWords.Runs.{Boots};
 
 use module_text::{TextEnd, number};
 use session_text::{BootEnd, Session, read_session};
@@ -92,6 +93,7 @@ pub(crate) fn session_of(alloc: Global, text: &[u8]) -> Result<Session, RunEnd>
 pub(crate) fn machine_of(alloc: Global, session: &Session) -> Result<Machine, RunEnd>
     requires { IsLawful session.now }
     ensures steps { IfOk result (λ m. steps_of m.state ≡ 0) }
+    ensures boots { IfOk result (λ _. Boots session.now) }
     ensures most { session.now.go ≤ most_steps }
 {
     match boot(alloc, session) {
@@ -152,10 +154,25 @@ fn no_step(
     )
 }
 
-// The status of words that ask for nothing, and why they do not.
-fn wrong_words(alloc: Global, script: &[u8], why: &[Said]) -> Result<ToolText, AllocError> {
+/// The status of words that ask for nothing, and why they do not.
+pub(crate) fn wrong_words(
+    alloc: Global,
+    script: &[u8],
+    why: &[Said],
+) -> Result<ToolText, AllocError> {
+    wrong_part(alloc, b"", script, why)
+}
+
+/// The same where it is a part of the words that is wrong: its name is given with a blank before it.
+pub(crate) fn wrong_part<'a>(
+    alloc: Global,
+    part: &'a [u8],
+    script: &'a [u8],
+    why: &[Said],
+) -> Result<ToolText, AllocError> {
     let mut bytes = Vec::new(alloc);
-    push_sentence(&mut bytes, &[Bytes(b"* 2\n"), Bytes(script), Bytes(b": ")])?;
+    push_sentence(&mut bytes, &[Bytes(b"* 2"), Bytes(part), Bytes(b"\n")])?;
+    push_sentence(&mut bytes, &[Bytes(script), Bytes(b": ")])?;
     push_sentence(&mut bytes, why)?;
     push_sentence(&mut bytes, &[Bytes(b"\n")])?;
     Ok(ToolText {

@@ -94,6 +94,6 @@ fn write_usage<K: Sink>(out: &mut K) -> Result<(), SinkFault>
 {
     write_text(
         out,
-        b"* usage: tripos_show state, log or log FIRST LAST, writes A or writes A FIRST LAST, places, words, events, moment, errors, tries tick, key K, priority TASK or stack TASK, and values: N or N-M\n",
+        b"* usage: tripos_show state, log or log FIRST LAST, writes A or writes A FIRST LAST, places, words, events, moment, errors, outcomes, variant, tries tick, key K, priority TASK or stack TASK, and values: N or N-M\n",
     )
 }

@@ -8,6 +8,7 @@ ghost use Rattle.show_run.specs.Tellings.{IsTold, Tells, telling_named, telling_
 
 use crate::places::places_text;
 use crate::refused_texts::errors_text;
+use crate::told_tries::{outcomes_text, variant_text};
 use crate::typed_words::debugged_words;
 use crate::worded_log::worded_log;
 use crate::worded_moment::worded_moment;
@@ -30,9 +31,13 @@ pub enum Telling {
     Moment,
     /// What is wrong in a text that the first program refuses.
     Errors,
+    /// What the runs of a session come to with each of many values of one number.
+    Outcomes,
+    /// A session with another value of one number.
+    Variant,
 }
 
-/// What the words ask for, or `None` exactly where they are not `places`, `words`, `events`, `moment` or `errors` alone.
+/// What the words ask for, or `None` exactly where they are not `places`, `words`, `events`, `moment`, `errors`, `outcomes` or `variant` alone.
 pub fn telling_of(words: &[String]) -> Option<Telling>
     ensures { result ≡ telling_of (map string_bytes words.now) }
 {
@@ -51,6 +56,8 @@ fn telling_named(word: &str) -> Option<Telling>
         "events" => Some(Telling::Events),
         "moment" => Some(Telling::Moment),
         "errors" => Some(Telling::Errors),
+        "outcomes" => Some(Telling::Outcomes),
+        "variant" => Some(Telling::Variant),
         _ => None,
     }
 }
@@ -87,5 +94,7 @@ fn tell(alloc: Global, asked: Telling, text: &[u8]) -> Result<ToolText, AllocErr
         Telling::Events => worded_log(alloc, text),
         Telling::Moment => worded_moment(alloc, text),
         Telling::Errors => errors_text(alloc, text),
+        Telling::Outcomes => outcomes_text(alloc, text),
+        Telling::Variant => variant_text(alloc, text),
     }
 }

@@ -11,6 +11,16 @@ use Rattle.tool_bundles.specs.declared.bundles.Entry.{Entry}
 use Rattle.tool_bundles.specs.declared.bundles.Header.{Header}
 use Rattle.tool_bundles.specs.declared.bundles.Header.TheVariants.{Word, Unread as UnreadWord, File}
 
+-- the bytes that come with a word, where some do
+abbrev pub bytes_with : Content → Option (List ℕ)
+bytes_with Nothing = None
+bytes_with Unread = None
+bytes_with (Bytes bytes) = Some bytes
+
+-- the bytes of the file that a word names
+abbrev pub file_of : Entry → Option (List ℕ)
+file_of entry = bytes_with entry.content
+
 infixl 10 ◌>>=◌
 -- a step, and then the next one with what it gave, unless it gave nothing
 abbrev ◌>>=◌ : {A B : Type 0} → Option A → (A → Option B) → Option B

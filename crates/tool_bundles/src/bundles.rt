@@ -2,7 +2,7 @@
 ghost use Rattle.std.specs.Prelude.{◌≡◌, ◌==◌, option_map};
 ghost use Rattle.std.specs.List.{position};
 ghost use Rattle.tool_bundles.specs.Bundles.{Reads, bundle_of};
-ghost use Rattle.tool_bundles.specs.Entries.{bare_word, entry_of, file_header, file_word, first_line, header_of, part_of, with_header};
+ghost use Rattle.tool_bundles.specs.Entries.{bare_word, entry_of, file_header, file_of, file_word, first_line, header_of, part_of, with_header};
 
 use crate::ends::BundleEnd;
 use module_text::{after_word, number};
@@ -52,6 +52,16 @@ impl<'a> Entry<'a> {
         Entry {
             word: self.word.again(),
             content: self.content.again(),
+        }
+    }
+
+    /// The bytes of the file that it names; `None` exactly where it brings none.
+    pub fn file(&self) -> Option<Lent<'a>>
+        ensures { result ≡ file_of self.now }
+    {
+        match &self.content {
+            Content::Bytes(bytes) => Some(bytes.again()),
+            Content::Nothing | Content::Unread => None,
         }
     }
 }

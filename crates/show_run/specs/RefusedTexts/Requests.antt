@@ -1,22 +1,15 @@
 -- What a bundle asks for whose text is refused.
-use Rattle.std.specs.Prelude.{ℕ, List, [], ◌∷◌, Option, Some, None, option_and_then}
+use Rattle.std.specs.Prelude.{ℕ, List, [], ◌∷◌, Option, Some, None, option_and_then, option_map}
 use Rattle.tool_bundles.specs.Bundles.{bundle_of}
-use Rattle.tool_bundles.specs.declared.bundles.Content.{Content}
-use Rattle.tool_bundles.specs.declared.bundles.Content.TheVariants.{Nothing, Unread, Bytes}
+use Rattle.tool_bundles.specs.Entries.{file_of}
 use Rattle.tool_bundles.specs.declared.bundles.Entry.{Entry}
 use Rattle.text_errors.specs.Kinds.{kind_named}
 use Rattle.text_errors.specs.declared.kinds.TextKind.{TextKind}
 use Rattle.show_run.specs.declared.refused_texts.requests.Request.{Request}
 
--- the text of this kind that a word names, where it brings the bytes
-abbrev pub with_content : TextKind → List ℕ → Content → Option Request
-with_content kind name (Bytes text) = Some (record { kind = kind; name = name; text = text })
-with_content kind name Nothing = None
-with_content kind name Unread = None
-
 -- the text of this kind that a word names
 abbrev pub with_kind : TextKind → Entry → Option Request
-with_kind kind file = with_content kind file.word file.content
+with_kind kind file = option_map (λ text. record { kind = kind; name = file.word; text = text }) (file_of file)
 
 -- a kind, and a file with its bytes
 abbrev pub request_of : List Entry → Option Request

@@ -6,6 +6,10 @@ use Rattle.tripos_machine.specs.Boot.{boot}
 use Rattle.tripos_machine.specs.State.{State, steps_of}
 use Rattle.tripos_machine.specs.Step.{Stepped, run}
 
+-- the session boots
+abbrev pub Boots : Session → Type 0
+Boots session = (first : Stepped) × boot session ≡ Ok first
+
 -- The session boots, and this is its machine after so many steps.
 pub record IsAfter (session : Session) (steps : ℕ) (s : State) : Type 0 where
   -- the machine of the boot

@@ -3,7 +3,7 @@ ghost use Rattle.std.specs.Prelude.{◌≡◌};
 ghost use Rattle.show_run.specs.RefusedTexts.Requests.{request_of, with_kind};
 
 use text_errors::{TextKind, kind_named};
-use tool_bundles::{Content, Entry};
+use tool_bundles::Entry;
 use tool_texts::Lent;
 
 /// What is asked for.
@@ -31,12 +31,9 @@ pub fn request_of<'a>(entries: &'a [Entry<'a>]) -> Option<Request<'a>>
 fn with_kind<'a>(kind: TextKind, file: &'a Entry<'a>) -> Option<Request<'a>>
     ensures { result ≡ with_kind kind file.now }
 {
-    match &file.content {
-        Content::Bytes(text) => Some(Request {
-            kind,
-            name: file.word.again(),
-            text: text.again(),
-        }),
-        Content::Nothing | Content::Unread => None,
-    }
+    Some(Request {
+        kind,
+        name: file.word.again(),
+        text: file.file()?,
+    })
 }

@@ -5,7 +5,6 @@ use crate::typed_words::assembly_lines::line_of;
 use crate::typed_words::cases::Case;
 use crate::typed_words::fields::trimmed;
 use crate::typed_words::registers::is_address;
-use crate::typed_words::requests::bytes_of;
 use crate::typed_words::sentences::push_said;
 use program_places::{LineFound, addresses_of, line_at, line_in, push_place};
 use std::alloc::{AllocError, Global};
@@ -91,7 +90,7 @@ pub fn assembly_at<'a>(
 fn line_of_file<'a>(case: &Case<'a>, file: &[u8], number: u64) -> &'a [u8] {
     for entry in case.sources.as_slice() {
         if entry.word.bytes() == file {
-            return match bytes_of(entry) {
+            return match entry.file() {
                 Some(bytes) => trimmed(line_of(bytes.bytes(), number)),
                 None => &[],
             };

@@ -2,14 +2,15 @@
 ghost use Rattle.std.specs.Prelude.{◌≡◌, ◌≤◌, ◌-◌, OnOk};
 ghost use Rattle.session_text.specs.Canonical.{IsLawful};
 ghost use Rattle.tripos_machine.specs.State.{steps_of};
-ghost use Rattle.show_run.specs.TypedWords.Runs.{IsAfter, IsRun};
+ghost use Rattle.show_run.specs.TypedWords.Runs.{Boots, IsAfter, IsRun};
 
 use crate::typed_words::addresses::push_line_at;
 use crate::typed_words::cases::Case;
 use crate::typed_words::debuggees::Debuggee;
-use crate::typed_words::lines::{keep_line, obey, push_place};
+use crate::typed_words::lines::{keep_line, push_place, push_refusal};
 use crate::typed_words::machines::machine_after;
 use crate::typed_words::registers::is_address;
+use debugger::{Order, order_of};
 use module_text::{after_word, number, split_line};
 use std::alloc::{AllocError, Global};
 use tool_texts::Said::{Bytes, Number};
@@ -26,7 +27,8 @@ pub fn go_back(
 ) -> Result<(), AllocError>
     requires lawful { IsLawful case.now.session }
     requires run { IsRun case.now.session debuggee.old.machine.state }
-    ensures { OnOk result (IsRun case.now.session debuggee.new.machine.state) }
+    ensures run { OnOk result (IsRun case.now.session debuggee.new.machine.state) }
+    ensures stops { debuggee.new.stops ≡ debuggee.old.stops }
 {
     if is_address(word) {
         if let Some(n) = number(word) {
@@ -35,8 +37,11 @@ pub fn go_back(
     }
     let mut line = Vec::new(alloc);
     push_sentence(&mut line, &[Bytes(b"BACK "), Bytes(word)])?;
-    obey(alloc, case, debuggee, line.as_slice(), text)?;
-    Ok(())
+    match order_of(0, line.as_slice()) {
+        Ok(Order::Back(n)) => go_back_steps(alloc, case, debuggee, u64::from(n), text),
+        Ok(_) => Ok(()),
+        Err(bad) => push_refusal(text, bad.code),
+    }
 }
 
 /// Goes back n steps, or to the start.
@@ -70,6 +75,7 @@ fn return_to(
     steps: u64,
 ) -> Result<(), AllocError>
     requires lawful { IsLawful case.now.session }
+    requires boots { Boots case.now.session }
     requires few { steps ≤ case.now.session.go }
     ensures state { OnOk result (IsAfter case.now.session steps debuggee.new.machine.state) }
     ensures stops { debuggee.new.stops ≡ debuggee.old.stops }

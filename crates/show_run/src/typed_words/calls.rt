@@ -7,11 +7,11 @@ use crate::typed_words::cases::Case;
 use crate::typed_words::debuggees::Debuggee;
 use crate::typed_words::frames::frame_at;
 use crate::typed_words::gathered::Gathered;
-use crate::typed_words::lines::{arrive, obey};
+use crate::typed_words::lines::{arrive, obey_order};
 use crate::typed_words::machines::{go_to, machine_after};
 use crate::typed_words::sentences::push_said;
 use byte_streams::SinkFault;
-use debugger::gather_instructions;
+use debugger::{Order, gather_instructions};
 use module_text::split_line;
 use session_text::{Session, number_field};
 use std::alloc::{AllocError, Global};
@@ -53,7 +53,8 @@ pub fn step_over(
 ) -> Result<(), AllocError>
     requires lawful { IsLawful case.now.session }
     requires run { IsRun case.now.session debuggee.old.machine.state }
-    ensures { OnOk result (IsRun case.now.session debuggee.new.machine.state) }
+    ensures run { OnOk result (IsRun case.now.session debuggee.new.machine.state) }
+    ensures stops { OnOk result (debuggee.new.stops ≡ debuggee.old.stops) }
 {
     let regs = debuggee.machine.regs();
     match next_at(alloc, debuggee.machine.store(), regs.pc)? {
@@ -65,24 +66,9 @@ pub fn step_over(
             };
             go_until(alloc, case, debuggee, place, text)
         }
-        Next::NoCall => obey_alone(alloc, case, debuggee, b"STEP 1", text),
-        Next::LastCall => obey_alone(alloc, case, debuggee, b"BP ", text),
+        Next::NoCall => obey_order(alloc, case, debuggee, Order::Step(1), b"STEP 1", text),
+        Next::LastCall => push_said(text, &[Bytes(b"no instruction comes after this call")]),
     }
-}
-
-fn obey_alone(
-    alloc: Global,
-    case: &Case,
-    debuggee: &mut Debuggee,
-    line: &[u8],
-    text: &mut Vec<u8>,
-) -> Result<(), AllocError>
-    requires lawful { IsLawful case.now.session }
-    requires run { IsRun case.now.session debuggee.old.machine.state }
-    ensures { OnOk result (IsRun case.now.session debuggee.new.machine.state) }
-{
-    obey(alloc, case, debuggee, line, text)?;
-    Ok(())
 }
 
 // What is at an address of a store, by its listing.

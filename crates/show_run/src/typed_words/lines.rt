@@ -4,7 +4,7 @@ ghost use Rattle.session_text.specs.Canonical.{IsLawful};
 ghost use Rattle.debugger.specs.Debugged.{Debugging, line_obeyed, obeyed};
 ghost use Rattle.debugger.specs.OrderLines.{is_back};
 ghost use Rattle.debugger.specs.Orders.{order_of};
-ghost use Rattle.show_run.specs.TypedWords.Runs.{IsRun, limits_of};
+ghost use Rattle.show_run.specs.TypedWords.Runs.{Boots, IsRun, limits_of};
 ghost use Rattle.show_run.specs.TypedWords.ShownBytes.{GoesOnFrom, shown};
 
 use crate::typed_words::cases::Case;
@@ -69,7 +69,8 @@ pub fn push_refusal(text: &mut Vec<u8>, code: u32) -> Result<(), AllocError> {
     )
 }
 
-fn obey_order(
+/// Does an order that a line asks for.
+pub fn obey_order(
     alloc: Global,
     case: &Case,
     debuggee: &mut Debuggee,
@@ -189,7 +190,8 @@ fn undo(
     line: &[u8],
     text: &mut Vec<u8>,
 ) -> Result<(), AllocError>
-    requires { IsLawful case.now.session }
+    requires lawful { IsLawful case.now.session }
+    requires boots { Boots case.now.session }
     ensures run { OnOk result (IsRun case.now.session debuggee.new.machine.state) }
     ensures stops { debuggee.new.stops ≡ debuggee.old.stops }
 {

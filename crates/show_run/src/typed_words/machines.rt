@@ -5,25 +5,27 @@ ghost use Rattle.kernel_model.specs.KernelRecord.Ranges.{most_steps};
 ghost use Rattle.tripos_machine.specs.State.{steps_of};
 ghost use Rattle.tripos_machine.specs.Step.{run};
 ghost use Rattle.debugger.specs.Debugged.{Debugging, obeyed};
-ghost use Rattle.show_run.specs.TypedWords.Runs.{IsAfter, IsRun, limits_of};
+ghost use Rattle.show_run.specs.TypedWords.Runs.{Boots, IsAfter, IsRun, limits_of};
 
 use crate::typed_words::debuggees::Debuggee;
 use crate::typed_words::gathered::Gathered;
 use byte_streams::{SinkFault, WantMemory};
 use debugger::{Breakpoints, History, Limits, Order, debug_back, obey, steps_left, take_steps_to};
-use session_text::Session;
+use session_text::{BootEnd, Session};
 use std::alloc::{AllocError, Global};
 use tripos_machine::{Machine, boot};
 
-/// The machine of a session after so many steps from its boot. A session that does not boot has none; then, too, the answer is `AllocError`.
+/// The machine of a session after so many steps from its boot.
 pub fn machine_after(alloc: Global, session: &Session, steps: u64) -> Result<Machine, AllocError>
     requires lawful { IsLawful session.now }
+    requires boots { Boots session.now }
     requires few { steps ≤ session.now.go }
     ensures { IfOk result (λ m. IsAfter session.now steps m.state) }
 {
     match boot(alloc, session) {
         Ok(machine) => Ok(after_steps(machine, steps)),
-        Err(_) => Err(AllocError),
+        Err(BootEnd::WantMemory) => Err(AllocError),
+        Err(BootEnd::Line { .. }) => unreachable!(),
     }
 }
 
@@ -110,7 +112,8 @@ pub fn machine_by_lines(
     session: &Session,
     lines: &[u8],
 ) -> Result<(Machine, Vec<u8>), AllocError>
-    requires { IsLawful session.now }
+    requires lawful { IsLawful session.now }
+    requires boots { Boots session.now }
     ensures { IfOk result (λ x. IsRun session.now x.0.state) }
 {
     let machine = machine_after(alloc, session, 0)?;

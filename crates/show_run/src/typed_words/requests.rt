@@ -1,6 +1,6 @@
 // What is asked for: a session, its map, words, and the files that the map names.
 
-use tool_bundles::{Content, Entries, Entry};
+use tool_bundles::{Entries, Entry};
 use tool_texts::Lent;
 
 /// What is asked for.
@@ -26,24 +26,16 @@ pub fn request_of<'a>(entries: &'a [Entry<'a>]) -> Option<Request<'a>> {
     let (words, sources) = rest.split_first()?;
     Some(Request {
         path: session.word.again(),
-        session: bytes_of(session)?,
+        session: session.file()?,
         map: map_of(map)?,
-        words: bytes_of(words)?,
+        words: words.file()?,
         sources: Entries::new(sources),
     })
 }
 
-/// The bytes of the file that a word names; `None` exactly where it brings none.
-pub fn bytes_of<'a>(entry: &Entry<'a>) -> Option<Lent<'a>> {
-    match &entry.content {
-        Content::Bytes(bytes) => Some(bytes.again()),
-        Content::Nothing | Content::Unread => None,
-    }
-}
-
 // The map, if there is one; `None` where the word is neither `-` nor names a file that was read.
 fn map_of<'a>(entry: &Entry<'a>) -> Option<Option<Lent<'a>>> {
-    match bytes_of(entry) {
+    match entry.file() {
         Some(bytes) => Some(Some(bytes)),
         None if entry.word.bytes() == b"-".as_slice() => Some(None),
         None => None,

@@ -4,7 +4,7 @@ ghost use Rattle.kernel_model.specs.KernelRecord.Ranges.{most_steps};
 ghost use Rattle.tripos_machine.specs.State.{steps_of, stop_of};
 ghost use Rattle.tripos_machine.specs.Step.{step};
 ghost use Rattle.session_text.specs.Canonical.{IsLawful};
-ghost use Rattle.show_run.specs.TypedWords.Runs.{IsRun};
+ghost use Rattle.show_run.specs.TypedWords.Runs.{Boots, IsRun};
 
 use crate::typed_words::addresses::push_line_at;
 use crate::typed_words::cases::Case;
@@ -151,7 +151,8 @@ pub fn tell_writer(
     digits: &[u8],
     text: &mut Vec<u8>,
 ) -> Result<(), AllocError>
-    requires { IsLawful case.now.session }
+    requires lawful { IsLawful case.now.session }
+    requires boots { Boots case.now.session }
 {
     let Some(address) = word_address(digits) else {
         return push_no_address(text, digits);
@@ -170,7 +171,8 @@ pub fn tell_writer(
 
 // The lines of the last of so many steps from the boot that writes the word, or of the boot: none where none does.
 fn last_write(alloc: Global, case: &Case, address: u32, steps: u64) -> Result<Vec<u8>, AllocError>
-    requires { IsLawful case.now.session }
+    requires lawful { IsLawful case.now.session }
+    requires boots { Boots case.now.session }
 {
     let mut machine = machine_after(alloc, &case.session, 0)?;
     let mut told = Gathered::new(alloc);

@@ -41,7 +41,7 @@ fn tries_with(alloc: Global, what: &str, words: &[String]) -> Result<Option<Trie
         return tries_at(alloc, Setting::Tick, words);
     }
     match words {
-        [number, values @ ..] => match numbered_setting(what, number.as_str()) {
+        [number, values @ ..] => match numbered_setting(what.as_bytes(), number.as_bytes()) {
             Some(setting) => tries_at(alloc, setting, values),
             None => Ok(None),
         },
@@ -49,17 +49,21 @@ fn tries_with(alloc: Global, what: &str, words: &[String]) -> Result<Option<Trie
     }
 }
 
-// What is set of the key or the task with a number.
-fn numbered_setting(what: &str, digits: &str) -> Option<Setting>
+/// What is set of the key or the task with a number.
+pub(crate) fn numbered_setting(what: &[u8], digits: &[u8]) -> Option<Setting>
     ensures { result ≡ numbered_setting what.now digits.now }
 {
-    let number = number(digits.as_bytes())?;
-    match what {
-        "key" => Some(Setting::Key(number)),
-        "priority" => Some(Setting::Priority(number)),
-        "stack" => Some(Setting::Stack(number)),
-        _ => None,
+    let number = number(digits)?;
+    if what == b"key".as_slice() {
+        return Some(Setting::Key(number));
     }
+    if what == b"priority".as_slice() {
+        return Some(Setting::Priority(number));
+    }
+    if what == b"stack".as_slice() {
+        return Some(Setting::Stack(number));
+    }
+    None
 }
 
 // The tries of the values that the words are, if each is one, and there is one at least.
@@ -114,8 +118,8 @@ fn read_spans(alloc: Global, words: &[String]) -> Result<Option<Vec<Span>>, Allo
     Ok(Some(spans))
 }
 
-// The value or the values that a word is, if it is that.
-fn span_in(word: &[u8]) -> Option<Span>
+/// The value or the values that a word is, if it is that.
+pub(crate) fn span_in(word: &[u8]) -> Option<Span>
     ensures { result ≡ span_in word.now }
 {
     match first_dash(word) {
@@ -124,7 +128,8 @@ fn span_in(word: &[u8]) -> Option<Span>
     }
 }
 
-fn first_dash(word: &[u8]) -> Option<usize>
+/// Where the first `-` of a word is.
+pub(crate) fn first_dash(word: &[u8]) -> Option<usize>
     ensures { result ≡ position (λ c. c == 45) word.now }
 {
     word.iter().position(|c| *c == b'-')

@@ -1,7 +1,7 @@
 // What is asked of the log.
 use crate::no_machines::step_named;
 use module_text::{after_word, number};
-use tool_bundles::{Content, Entry};
+use tool_bundles::Entry;
 
 /// What is asked for.
 #[derive(Clone, Copy)]
@@ -25,12 +25,9 @@ pub fn request_of<'a>(entries: &[Entry<'a>]) -> Option<Request<'a>> {
     let [session, task, kinds, first, last] = entries else {
         return None;
     };
-    let Content::Bytes(bytes) = &session.content else {
-        return None;
-    };
     Some(Request {
         name: session.word.bytes(),
-        session: bytes.bytes(),
+        session: session.file()?.bytes(),
         task: task_of(task.word.bytes())?,
         kinds: kinds.word.bytes(),
         first: number(first.word.bytes())?,

@@ -1,6 +1,6 @@
 // What is asked of a moment.
 use crate::no_machines::step_named;
-use tool_bundles::{Content, Entry};
+use tool_bundles::Entry;
 
 /// What is told.
 #[derive(Clone, Copy)]
@@ -29,12 +29,9 @@ pub fn request_of<'a>(entries: &[Entry<'a>]) -> Option<Request<'a>> {
     let [session, asked, at] = entries else {
         return None;
     };
-    let Content::Bytes(bytes) = &session.content else {
-        return None;
-    };
     Some(Request {
         name: session.word.bytes(),
-        session: bytes.bytes(),
+        session: session.file()?.bytes(),
         asked: asked_by(asked.word.bytes())?,
         at: step_named(at.word.bytes())?,
     })

@@ -3,6 +3,7 @@ ghost use Rattle.std.specs.Prelude.{◌≡◌, ◌≤◌, OnOk};
 ghost use Rattle.session_text.specs.Canonical.{IsLawful};
 ghost use Rattle.kernel_model.specs.KernelRecord.Ranges.{most_steps};
 ghost use Rattle.tripos_machine.specs.State.{steps_of};
+ghost use Rattle.show_run.specs.TypedWords.Runs.{Boots};
 
 use crate::no_machines::{RunEnd, entries_of, machine_of, session_of, told_end};
 use crate::single_steps::{former_store, take_step, take_unheard};
@@ -50,6 +51,7 @@ fn machine_text(
     machine: &mut Machine,
 ) -> Result<Vec<u8>, AllocError>
     requires lawful { IsLawful session.now }
+    requires boots { Boots session.now }
     requires begins { steps_of machine.old.state ≡ 0 }
     ensures { OnOk result (steps_of machine.new.state ≤ session.now.go) }
 {
@@ -69,6 +71,7 @@ fn moment_text<'a>(
     out: &'a PacketsOut,
 ) -> Result<Vec<u8>, AllocError>
     requires lawful { IsLawful session.now }
+    requires boots { Boots session.now }
     requires few { steps_of machine.now.state ≤ session.now.go }
 {
     let programs = known_programs(alloc, session)?;
@@ -103,6 +106,7 @@ fn plain_state(alloc: Global, machine: &Machine) -> Result<Vec<u8>, AllocError> 
 // Adds what is asked for of a machine. The lists need none of its last steps.
 fn push_scene(alloc: Global, asked: Asked, view: View, text: &mut Vec<u8>) -> Result<(), AllocError>
     requires lawful { IsLawful view.session.now }
+    requires boots { Boots view.session.now }
     requires few { view.steps ≤ most_steps }
 {
     let mut scene = Scene::new(alloc, view)?;
@@ -120,6 +124,7 @@ fn push_scene(alloc: Global, asked: Asked, view: View, text: &mut Vec<u8>) -> Re
 // Looks through the steps from the first to the last that a machine has taken.
 fn look_back(alloc: Global, view: View, first: u64, trails: &mut Trails) -> Result<(), AllocError>
     requires lawful { IsLawful view.session.now }
+    requires boots { Boots view.session.now }
     requires few { view.steps ≤ most_steps }
 {
     let before = first.saturating_sub(1).min(view.session.go);

@@ -5,7 +5,7 @@ use Rattle.show_run.proofs.typed_words.machines.machine_by_lines.Goals as goal
 pub debug_back-machine-requires-clause-steps : goal.debug_back-machine-requires-clause-steps
 debug_back-machine-requires-clause-steps c =
     let session = c.args.session.now in
-    omega (arith, after-none session c.in_ok-machine.machine.state c.in_ok-machine.ensures, session-steps session c.requires)
+    omega (arith, after-none session c.in_ok-machine.machine.state c.in_ok-machine.ensures, session-steps session c.requires.lawful)
 
 pub returns : goal.returns
 returns c =
