@@ -105,6 +105,7 @@ function written_before_closing(letters) {
 export function run_pane({ show_line, show_place }) {
   const ending = make('p', { class: 'ending', role: 'status', 'aria-live': 'polite', id: 'ending' });
   const output = make('pre', { class: 'output', tabindex: '0', 'aria-label': 'Console: what the program writes', id: 'console' });
+  const age = make('span', { class: 'note' });
   const said = make('p', { class: 'said' });
   let is_hex = false;
 
@@ -122,11 +123,15 @@ export function run_pane({ show_line, show_place }) {
     run_button.disabled = Boolean(run?.is_running);
     stop_button.disabled = !run?.is_running;
     hex_button.disabled = save_button.disabled = !run?.bytes;
+    show_ending(run);
+    show_age();
+    show_output(run);
+  }
+
+  function show_ending(run) {
     if (!run || run.is_running) {
       ending.className = 'ending';
       fill(ending, run ? 'Running …' : 'Not run yet: Run, or Ctrl+Enter, runs the session.');
-      if (!run) fill(output);
-      fill(said);
       return;
     }
     const { words, is_bad, line } = ending_of(run);
@@ -137,9 +142,19 @@ export function run_pane({ show_line, show_place }) {
       line ? button(`Show line ${line}`, () => show_line(line), { class: 'link' }) : null,
       place ? button(`Line ${place.line} of ${place.file}`, () => show_place(place.file, place.line), { class: 'link', id: 'fault-line' }) : null,
       run.problem?.where?.line ? button('Show the line', () => show_place(run.problem.where.file, run.problem.where.line), { class: 'link' }) : null,
-      run.input !== undefined && known_session() !== null && run.input !== known_session()
-        ? make('span', { class: 'note' }, ' — before your last change; Run runs it again') : null);
-    if (!run.bytes) { fill(output); fill(said); return; }
+      age);
+  }
+
+  // the buttons stay as they are here: one that is drawn anew while it is pressed is not clicked
+  function show_age() {
+    const { run } = state;
+    const is_old = run?.input !== undefined && known_session() !== null && run.input !== known_session();
+    age.textContent = is_old ? ' — before your last change; Run runs it again' : '';
+  }
+
+  function show_output(run) {
+    if (run?.is_running) { fill(said); return; }
+    if (!run?.bytes) { fill(output); fill(said); return; }
     if (is_hex) {
       fill(output, hex_rows(run.bytes));
       fill(said, run.bytes.length > 4096 ? `The first 4,096 of ${run.bytes.length.toLocaleString('en')} bytes; Save has them all.` : '');
@@ -152,7 +167,8 @@ export function run_pane({ show_line, show_place }) {
       button(`with ${value}`, () => run_with(run, value), { class: 'link', 'data-value': value }))] : null);
   }
 
-  watch(['run', 'made', 'own'], show);
+  watch(['run'], show);
+  watch(['made', 'own'], show_age);
   watch(['command', 'shape'], show_commands);
   show();
   show_commands();

@@ -109,13 +109,22 @@ export class Tab {
     }
   }
 
-  /** Clicks into the middle of the first element of a selector, after it was scrolled into sight. Throws where there is none that can be seen. */
+  /**
+   * Clicks into the middle of the first element of a selector, after it was scrolled into sight and has kept its place for two frames. Throws where
+   * there is none that can be seen.
+   */
   async click(selector, { count = 1 } = {}) {
-    const [x, y] = await this.until(`(() => {
-      const it = document.querySelector(${JSON.stringify(selector)});
-      it?.scrollIntoView({ block: 'nearest', inline: 'nearest', behavior: 'instant' });
-      const box = it?.getBoundingClientRect();
-      return box?.width && box.height ? [box.x + box.width / 2, box.y + box.height / 2] : null;
+    const [x, y] = await this.until(`(async () => {
+      const place = () => {
+        const it = document.querySelector(${JSON.stringify(selector)});
+        it?.scrollIntoView({ block: 'nearest', inline: 'nearest', behavior: 'instant' });
+        const box = it?.getBoundingClientRect();
+        return box?.width && box.height ? [box.x + box.width / 2, box.y + box.height / 2] : null;
+      };
+      const first = place();
+      await new Promise((resolve) => requestAnimationFrame(() => requestAnimationFrame(resolve)));
+      const second = place();
+      return first && second && first.join() === second.join() ? second : null;
     })()`, 5);
     await this.mouse('mouseMoved', x, y);
     for (let clickCount = 1; clickCount <= count; clickCount++) {
