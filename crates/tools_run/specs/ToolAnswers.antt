@@ -10,9 +10,10 @@ use Rattle.session_making.specs.Tool.{session_told}
 use Rattle.told_answers.specs.ToldAnswers.{IsToldBy}
 use Rattle.tools_run.specs.declared.commands.Asked.{Asked}
 use Rattle.tools_run.specs.declared.commands.Tool.{Tool}
-use Rattle.tools_run.specs.declared.commands.Tool.TheVariants.{Asm, AsmErrors, AsmNotes, AsmPlaces, Marks, Picture, Session}
+use Rattle.tools_run.specs.declared.commands.Tool.TheVariants.{Asm, AsmErrors, AsmNotes, AsmPlaces, Marks, Needs, Picture, Session, Unasm}
 
--- what a tool gives of a text with this name, where a definition says it: a picture is drawn as it is, and marks are told as they are
+-- what a tool gives of a text with this name, where a definition says it: a picture is drawn as it is, marks are told as they are, and so is what a
+-- module is read back as
 abbrev pub told : Tool → List ℕ → List ℕ → Option Told
 told Asm name text = Some (friendly_told name text)
 told AsmErrors name text = Some (assembly_errors name text)
@@ -21,6 +22,8 @@ told AsmPlaces name text = Some (assembly_places name text)
 told Session name text = Some (session_told text)
 told Picture name text = None
 told Marks name text = None
+told Unasm name text = None
+told Needs name text = None
 
 -- what is given is what the definition says, where there is one
 abbrev pub Tells : Option Told → Told → Type 0
@@ -35,6 +38,8 @@ IsToolAnswer asked text a = IsToldBy (told asked.tool asked.name text) a
 abbrev pub is_defined : Tool → Bool
 is_defined Picture = false
 is_defined Marks = false
+is_defined Unasm = false
+is_defined Needs = false
 is_defined tool = true
 
 -- words ask for no tool, or for one whose definition says what it gives

@@ -13,6 +13,7 @@ use assembly_places::assembly_places;
 use byte_streams::Sink;
 use friendly_assembly::friendly_text;
 use lab_marks::marks_text;
+use module_code::{global_needs, module_assembly};
 use program_answers::{Status, TextAnswers};
 use run_pictures::run_picture;
 use session_making::make_session;
@@ -54,5 +55,7 @@ fn tell(alloc: Global, tool: Tool, name: &[u8], text: &[u8]) -> Result<ToolText,
         Tool::Session => make_session(alloc, text),
         Tool::Picture => run_picture(alloc, text),
         Tool::Marks => marks_text(alloc, text),
+        Tool::Unasm => module_assembly(alloc, text),
+        Tool::Needs => global_needs(alloc, text),
     }
 }

@@ -21,6 +21,10 @@ pub enum Tool {
     Picture,
     /// The marks of a lab by the values of a number, or a file with these values, as a bundle asks for them.
     Marks,
+    /// The assembly that makes a module again.
+    Unasm,
+    /// Which globals modules set and use, and which of those that are called nobody sets.
+    Needs,
 }
 
 /// What is asked for: a tool, and how its input is called.
@@ -66,6 +70,8 @@ fn tool_named(word: &str) -> Option<Tool>
         "session" => Some(Tool::Session),
         "picture" => Some(Tool::Picture),
         "marks" => Some(Tool::Marks),
+        "unasm" => Some(Tool::Unasm),
+        "needs" => Some(Tool::Needs),
         _ => None,
     }
 }

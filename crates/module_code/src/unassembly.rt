@@ -1,0 +1,140 @@
+// The assembly of a module.
+ghost use Rattle.std.specs.Prelude.{◌≡◌, ◌++◌, map, IfOk, OnOk};
+ghost use Rattle.std.specs.List.{AllByRecursion, flat_map};
+ghost use Rattle.module_text.specs.Canonical.{IsPrintableHunk};
+ghost use Rattle.module_code.specs.Made.{AreWritten, IsAfter, IsRight, hunk_in, last_line, module_bytes, part_bytes};
+
+use crate::global_tables::word_at;
+use crate::hunk_assembly::form_of;
+use crate::hunk_words::push_words;
+use crate::known_names::{Names, names_in};
+use crate::parts::{Form, Part};
+use crate::requests::{NoAnswer, module_of, request_of, told_end};
+use module_text::Hunk;
+use std::alloc::{AllocError, Global};
+use tool_texts::Said::{Bytes, Number};
+use tool_texts::{ToolText, push_sentence};
+
+/// The assembly of the module that a bundle has.
+pub fn module_assembly(alloc: Global, bundle: &[u8]) -> Result<ToolText, AllocError> {
+    match assembly_text(alloc, bundle) {
+        Ok(bytes) => Ok(ToolText {
+            is_wrong: false,
+            bytes,
+        }),
+        Err(end) => told_end(alloc, b"unasm", end),
+    }
+}
+
+fn assembly_text(alloc: Global, bundle: &[u8]) -> Result<Vec<u8>, NoAnswer> {
+    let request = request_of(alloc, bundle)?;
+    let [named] = request.modules.as_slice() else {
+        return Err(NoAnswer::NoRequest);
+    };
+    let module = module_of(alloc, 0, named.text)?;
+    let names = names_in(alloc, request.names)?;
+    Ok(hunks_text(alloc, module.hunks.as_slice(), &names)?)
+}
+
+/// What is written of all hunks: of each one assembly that makes it again, but for its last word where a line says that, or its words.
+pub fn hunks_text(alloc: Global, hunks: &[Hunk], names: &Names) -> Result<Vec<u8>, AllocError>
+    requires { AllByRecursion IsPrintableHunk hunks.now }
+    ensures { IfOk result (λ text. AreWritten hunks.now text.items) }
+{
+    let parts = parts_of(alloc, hunks, names)?;
+    text_of(alloc, parts.as_slice())
+}
+
+// What is written of each hunk.
+fn parts_of<'a>(
+    alloc: Global,
+    hunks: &'a [Hunk],
+    names: &Names,
+) -> Result<Vec<Part<'a>>, AllocError>
+    requires { AllByRecursion IsPrintableHunk hunks.now }
+    ensures hunks { IfOk result (λ parts. map hunk_in parts.items ≡ hunks.now) }
+    ensures right { IfOk result (λ parts. AllByRecursion IsRight parts.items) }
+{
+    let mut parts = Vec::new(alloc);
+    for hunk in hunks {
+        let number = (parts.len() as u64).saturating_add(1);
+        parts.push(part_of(alloc, number, hunk, names)?)?;
+    }
+    Ok(parts)
+}
+
+// What is written of a hunk with this number.
+fn part_of<'a>(
+    alloc: Global,
+    number: u64,
+    hunk: &'a Hunk,
+    names: &Names,
+) -> Result<Part<'a>, AllocError>
+    requires { IsPrintableHunk hunk.now }
+    ensures hunk { IfOk result (λ part. hunk_in part ≡ hunk.now) }
+    ensures right { IfOk result IsRight }
+{
+    let form = form_of(alloc, hunk, names)?;
+    let mut text = Vec::new(alloc);
+    push_sentence(&mut text, &[Bytes(b"; HUNK "), Number(number)])?;
+    push_form(&mut text, hunk, &form)?;
+    Ok(Part { hunk, form, text })
+}
+
+// Adds what is written of a hunk in this form.
+fn push_form(text: &mut Vec<u8>, hunk: &Hunk, form: &Form) -> Result<(), AllocError>
+    ensures { OnOk result (IsAfter text.old.items hunk.now form.now text.new.items) }
+{
+    match form {
+        Form::Whole(lines) => push_sentence(text, &[Bytes(b"\n"), Bytes(lines.as_slice())]),
+        Form::WithLast(lines) => {
+            push_sentence(text, &[Bytes(b"\n"), Bytes(lines.as_slice())])?;
+            push_last(text, hunk)
+        }
+        Form::Words(why) => {
+            let why = Bytes(why.as_slice());
+            push_sentence(text, &[Bytes(b", as words: "), why, Bytes(b"\n")])?;
+            push_words(text, hunk)
+        }
+    }
+}
+
+// Adds the line with the last word of a hunk.
+fn push_last(text: &mut Vec<u8>, hunk: &Hunk) -> Result<(), AllocError>
+    ensures { OnOk result (text.new.items ≡ text.old.items ++ last_line hunk.now) }
+{
+    let words = hunk.words.as_slice();
+    let last = word_at(words, words.len().saturating_sub(1));
+    push_sentence(
+        text,
+        &[Bytes(b"; LAST "), Number(u64::from(last)), Bytes(b"\n")],
+    )
+}
+
+// The parts, one after the other.
+fn text_of(alloc: Global, parts: &[Part]) -> Result<Vec<u8>, AllocError>
+    ensures { IfOk result (λ text. text.items ≡ module_bytes parts.now) }
+{
+    let mut text = Vec::new(alloc);
+    if parts.is_empty() {
+        push_sentence(&mut text, &[Bytes(b"; NO HUNKS\n")])?;
+    } else {
+        push_parts(&mut text, parts)?;
+    }
+    Ok(text)
+}
+
+fn push_parts(text: &mut Vec<u8>, parts: &[Part]) -> Result<(), AllocError>
+    ensures { OnOk result (text.new.items ≡ text.old.items ++ flat_map part_bytes parts.now) }
+{
+    for part in parts {
+        push_part(text, part)?;
+    }
+    Ok(())
+}
+
+fn push_part(text: &mut Vec<u8>, part: &Part) -> Result<(), AllocError>
+    ensures { OnOk result (text.new.items ≡ text.old.items ++ part_bytes part.now) }
+{
+    push_sentence(text, &[Bytes(part.text.as_slice())])
+}
