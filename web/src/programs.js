@@ -5,6 +5,7 @@ import { button, fill, make } from './elements.js';
 import { files } from './files.js';
 import { help_for_line } from './instructions.js';
 import { machine_form } from './machine_form.js';
+import { add_assembly, is_module, show_globals } from './modules.js';
 import { page_body, title_of } from './pages.js';
 import { add_file, edit_text, fault_of_name, file_named, free_name, is_assembly, move_file, remove_file, rename_file, toggle_break } from './project.js';
 import { run_pane } from './run.js';
@@ -105,10 +106,13 @@ function editor_card() {
   const tools = make('div', { class: 'file-tools' },
     button('+ Program', () => new_file('program', '.asm', '        L0              ; call 0 quits\n        SP3\n        SP4\n        SYS\n'),
       { class: 'small', title: 'A new file of assembly' }),
-    button('+ Text', () => new_file('text', '', ''), { class: 'small', title: 'A new file of text' }),
+    button('+ Text', () => new_file('text', '', ''), { class: 'small', id: 'new-text', title: 'A new file of text' }),
     button('Load …', load_files, { class: 'small', title: 'Files from your disk' }),
     button('Save', () => state.open && save_as(state.open, file_named(state.open).text), { class: 'small', title: 'The open file to your disk' }),
     button('Rename', rename_open, { class: 'small' }));
+  const of_module = make('div', { class: 'bar of-module', id: 'of-module' }, 'The text of a module. ',
+    button('As assembly', () => add_assembly(state.open), { class: 'small', id: 'as-assembly', title: 'A program that makes this module again' }),
+    button('Its globals', () => show_globals(state.open), { class: 'small', id: 'its-globals', title: 'Which globals it sets, calls, reads and writes' }));
 
   const show_tabs = () => fill(tabs, state.project.files.map(file_tab));
   function show_open() {
@@ -130,6 +134,8 @@ function editor_card() {
     strip.hidden = errors.length + notes.length === 0;
   }
 
+  const show_module = () => { of_module.hidden = is_assembly(state.open) || !is_module(file_named(state.open)?.text ?? ''); };
+
   watch(['shape'], () => {
     if (state.opened !== opened_before) editors.clear();
     opened_before = state.opened;
@@ -140,10 +146,12 @@ function editor_card() {
   watch(['open'], () => { show_tabs(); show_open(); });
   watch(['errors', 'notes'], () => { show_tabs(); show_marks(); });
   watch(['breaks'], show_marks);
+  watch(['open', 'project'], show_module);
   show_tabs();
   show_open();
+  show_module();
   return make('section', { class: 'card editor', 'aria-label': 'Files' }, make('div', { class: 'bar' }, tabs, make('span', { class: 'grow' }), tools),
-    body, strip,
+    of_module, body, strip,
     make('p', { class: 'keys-hint with-help' }, help, make('span', { id: 'editor-keys' },
       'Tab: next column · Esc, Tab: leaves · F9 or a click at a number: breakpoint')));
 }

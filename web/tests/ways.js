@@ -242,6 +242,36 @@ const ways = {
     await set('#command', 'run', 'change');
   },
 
+  async 'a module read back'() {
+    await open_example('hello');
+    const module = readFileSync(join(top, 'archive/queens/queens.module'), 'latin1');
+    await tab.click('#new-text');
+    await tab.until("document.querySelector('dialog[open] input') !== null");
+    await set('dialog[open] input', 'queens.module');
+    await tab.click('dialog[open] .primary');
+    await tab.until("document.querySelector('.file-tab.is-open')?.textContent.startsWith('queens.module')");
+    same('no module yet', await tab.value("document.getElementById('of-module').hidden"), true);
+    await set('.editor-body textarea', module);
+    await tab.until("!document.getElementById('of-module').hidden");
+    await tab.click('#its-globals');
+    await tab.until("document.querySelector('dialog[open] pre') !== null");
+    const bundle = `word 1\n-\nfile 13 ${module.length}\nqueens.module\n${module}\n`;
+    same('the globals of a module', await text_of('dialog[open] pre'), answered('tripos_tools', ['needs'], bundle));
+    await tab.click('dialog[open] .choices button:last-child');
+    await tab.click('#as-assembly');
+    await tab.until("document.querySelector('.file-tab.is-open')?.textContent.startsWith('queens.asm')");
+    const assembly = await value_of('.editor-body textarea');
+    same('the assembly of a module', assembly, answered('tripos_tools', ['unasm'], bundle));
+    same('it makes the module again', answered('tripos', ['asm'], assembly), module);
+    await set('.editor-body textarea', `${assembly}; more\n`);
+    await tab.click('.file-tab [title^="queens.module"]');
+    await tab.until("!document.getElementById('of-module').hidden");
+    await set('.editor-body textarea', module.slice(0, 200));
+    await tab.click('#as-assembly');
+    await tab.until("document.querySelector('.notice').textContent.includes('the text ends inside the hunk')");
+    await tab.click('.notice button');
+  },
+
   async 'steps forth and back'() {
     await open_example('recursion');
     const made = await session();
