@@ -5,6 +5,7 @@ use Rattle.assembly.specs.AssemblyText.Assembly.{assembled}
 use Rattle.module_text.specs.Canonical.{printed}
 use Rattle.module_text.specs.declared.modules.Hunk.{Hunk}
 use Rattle.module_text.specs.declared.modules.Module.{Module}
+use Rattle.module_text.specs.ModuleOfText.{module_of}
 use Rattle.module_code.specs.declared.parts.Form.{Form}
 use Rattle.module_code.specs.declared.parts.Form.TheVariants.{Whole, WithLast, Words}
 use Rattle.module_code.specs.declared.parts.Part.{Part}
@@ -76,3 +77,7 @@ pub record AreParts (hs : List Hunk) (bytes : List ℕ) (parts : List Part) : Ty
 -- hunks are written in such a way
 abbrev pub AreWritten : List Hunk → List ℕ → Type 0
 AreWritten hunks text = (parts : List Part) × AreParts hunks text parts
+
+-- the module of a text is written
+abbrev pub IsAssemblyOf : List ℕ → List ℕ → Type 0
+IsAssemblyOf text bytes = (m : Module) × (module_of text ≡ Ok m) × AreWritten m.hunks bytes

@@ -1,6 +1,8 @@
 // What bundles ask for, and what is told where they have no answer.
-ghost use Rattle.std.specs.Prelude.{IfOk};
+ghost use Rattle.std.specs.Prelude.{◌≡◌, true, Ok, Some, IfOk};
 ghost use Rattle.module_text.specs.Canonical.{IsPrintable};
+ghost use Rattle.module_text.specs.ModuleOfText.{module_of};
+ghost use Rattle.tool_bundles.specs.Bundles.{bundle_of};
 
 use module_text::{Module, TextEnd, read_module};
 use std::alloc::{AllocError, AllocFailed, Global};
@@ -89,8 +91,10 @@ pub fn request_of(alloc: Global, bundle: &[u8]) -> Result<Request<'_>, NoAnswer>
     Ok(request)
 }
 
-// The words of a bundle.
-fn entries_of(alloc: Global, bundle: &[u8]) -> Result<Vec<Entry<'_>>, NoAnswer> {
+/// The words of a bundle.
+pub fn entries_of(alloc: Global, bundle: &[u8]) -> Result<Vec<Entry<'_>>, NoAnswer>
+    ensures { IfOk result (λ v. bundle_of bundle.now ≡ Some v.items) }
+{
     match read_bundle(alloc, bundle) {
         Ok(entries) => Ok(entries),
         Err(BundleEnd::NoBundle) => Err(NoAnswer::NoRequest),
@@ -98,8 +102,8 @@ fn entries_of(alloc: Global, bundle: &[u8]) -> Result<Vec<Entry<'_>>, NoAnswer> 
     }
 }
 
-// The text of the names.
-fn names_of<'a>(entry: &Entry<'a>) -> Option<&'a [u8]> {
+/// The text of the names: of the file that a word names, or nothing where the word is `-`; `None` where it is neither.
+pub fn names_of<'a>(entry: &Entry<'a>) -> Option<&'a [u8]> {
     if entry.word.bytes() == b"-".as_slice() {
         return Some(&[]);
     }
@@ -108,7 +112,8 @@ fn names_of<'a>(entry: &Entry<'a>) -> Option<&'a [u8]> {
 
 /// The module of a text, which is this one of those that are asked for.
 pub fn module_of(alloc: Global, module: usize, text: &[u8]) -> Result<Module, NoAnswer>
-    ensures { IfOk result IsPrintable }
+    ensures value { IfOk result (λ m. module_of text.now ≡ Ok m) }
+    ensures printable { IfOk result IsPrintable }
 {
     if text.len() >= TOO_LONG {
         return Err(NoAnswer::WantMemory);
@@ -121,7 +126,9 @@ pub fn module_of(alloc: Global, module: usize, text: &[u8]) -> Result<Module, No
 }
 
 /// What the tool of a script gives where a bundle has no answer. `AllocError` comes where memory could not be had, before or now.
-pub fn told_end(alloc: Global, script: &[u8], end: NoAnswer) -> Result<ToolText, AllocError> {
+pub fn told_end(alloc: Global, script: &[u8], end: NoAnswer) -> Result<ToolText, AllocError>
+    ensures { IfOk result (λ t. t.is_wrong ≡ true) }
+{
     match end {
         NoAnswer::NoRequest => wrong(
             alloc,
@@ -148,7 +155,9 @@ pub fn told_end(alloc: Global, script: &[u8], end: NoAnswer) -> Result<ToolText,
 }
 
 // What is wrong, after the status.
-fn wrong(alloc: Global, parts: &[Said]) -> Result<ToolText, AllocError> {
+fn wrong(alloc: Global, parts: &[Said]) -> Result<ToolText, AllocError>
+    ensures { IfOk result (λ t. t.is_wrong ≡ true) }
+{
     let mut bytes = Vec::new(alloc);
     push_sentence(&mut bytes, &[Bytes(b"* 2\n")])?;
     push_sentence(&mut bytes, parts)?;

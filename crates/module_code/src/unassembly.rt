@@ -2,21 +2,25 @@
 ghost use Rattle.std.specs.Prelude.{◌≡◌, ◌++◌, map, IfOk, OnOk};
 ghost use Rattle.std.specs.List.{AllByRecursion, flat_map};
 ghost use Rattle.module_text.specs.Canonical.{IsPrintableHunk};
-ghost use Rattle.module_code.specs.Made.{AreWritten, IsAfter, IsRight, hunk_in, last_line, module_bytes, part_bytes};
+ghost use Rattle.module_code.specs.Made.{AreWritten, IsAfter, IsAssemblyOf, IsRight, hunk_in, last_line, module_bytes, part_bytes};
+ghost use Rattle.module_code.specs.ReadBack.{IsRead, ReadsBack};
+ghost use Rattle.tool_texts.specs.Told.{told_of};
 
 use crate::global_tables::word_at;
 use crate::hunk_assembly::form_of;
 use crate::hunk_words::push_words;
 use crate::known_names::{Names, names_in};
 use crate::parts::{Form, Part};
-use crate::requests::{NoAnswer, module_of, request_of, told_end};
+use crate::requests::{NoAnswer, entries_of, module_of, names_of, told_end};
 use module_text::Hunk;
 use std::alloc::{AllocError, Global};
 use tool_texts::Said::{Bytes, Number};
 use tool_texts::{ToolText, push_sentence};
 
-/// The assembly of the module that a bundle has.
-pub fn module_assembly(alloc: Global, bundle: &[u8]) -> Result<ToolText, AllocError> {
+/// The assembly of the module that a bundle has, or what is wrong: the bundle has other words, or the text of the module is refused.
+pub fn module_assembly(alloc: Global, bundle: &[u8]) -> Result<ToolText, AllocError>
+    ensures { IfOk result (λ t. ReadsBack bundle.now (told_of t)) }
+{
     match assembly_text(alloc, bundle) {
         Ok(bytes) => Ok(ToolText {
             is_wrong: false,
@@ -26,13 +30,25 @@ pub fn module_assembly(alloc: Global, bundle: &[u8]) -> Result<ToolText, AllocEr
     }
 }
 
-fn assembly_text(alloc: Global, bundle: &[u8]) -> Result<Vec<u8>, NoAnswer> {
-    let request = request_of(alloc, bundle)?;
-    let [named] = request.modules.as_slice() else {
+// The assembly of the module of a bundle.
+fn assembly_text(alloc: Global, bundle: &[u8]) -> Result<Vec<u8>, NoAnswer>
+    ensures { IfOk result (λ v. IsRead bundle.now v.items) }
+{
+    let entries = entries_of(alloc, bundle)?;
+    let [names, module] = entries.as_slice() else {
         return Err(NoAnswer::NoRequest);
     };
-    let module = module_of(alloc, 0, named.text)?;
-    let names = names_in(alloc, request.names)?;
+    let text = module.file().ok_or(NoAnswer::NoRequest)?;
+    let names = names_of(names).ok_or(NoAnswer::NoRequest)?;
+    written_text(alloc, text.bytes(), names)
+}
+
+// The assembly of the module of a text, where these lines are the names of globals.
+fn written_text(alloc: Global, text: &[u8], names: &[u8]) -> Result<Vec<u8>, NoAnswer>
+    ensures { IfOk result (λ v. IsAssemblyOf text.now v.items) }
+{
+    let module = module_of(alloc, 0, text)?;
+    let names = names_in(alloc, names)?;
     Ok(hunks_text(alloc, module.hunks.as_slice(), &names)?)
 }
 

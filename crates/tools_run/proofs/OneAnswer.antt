@@ -4,15 +4,14 @@ use Rattle.std.proofs.lemmas.Bool.{false≢true}
 use Rattle.std.specs.Prelude.{nat_le}
 use Rattle.program_answers.specs.Answer.{Answer}
 use Rattle.program_answers.specs.Input.{IsAnswerWithin, IsInputAnswer, limit}
-use Rattle.told_answers.specs.ToldAnswers.{IsToldBy}
 use Rattle.tools_run.specs.InputAnswers.{IsAnswer, IsAskedAnswer}
-use Rattle.tools_run.specs.ToolAnswers.{HasDefinition, IsToolAnswer, is_defined, told}
+use Rattle.tools_run.specs.ToolAnswers.{HasDefinition, IsAnswerOf, IsToolAnswer, is_defined}
 use Rattle.tools_run.specs.Words.{asked_of}
 use Rattle.tools_run.specs.declared.commands.Asked.{Asked}
 use Rattle.tools_run.specs.declared.commands.Tool.{Tool}
-use Rattle.tools_run.specs.declared.commands.Tool.TheVariants.{Asm, AsmErrors, AsmNotes, AsmPlaces, Marks, Picture, Session}
+use Rattle.tools_run.specs.declared.commands.Tool.TheVariants.{Asm, AsmErrors, AsmNotes, AsmPlaces, Marks, Needs, Picture, Session, Unasm}
 
-one-told : (tool : Tool) (name text : List ℕ) (a b : Answer) → is_defined tool ≡ true → IsToldBy (told tool name text) a → IsToldBy (told tool name text) b → a ≡ b
+one-told : (tool : Tool) (name text : List ℕ) (a b : Answer) → is_defined tool ≡ true → IsAnswerOf tool name text a → IsAnswerOf tool name text b → a ≡ b
 one-told Asm name text a b d p q = p ∙ sym q
 one-told AsmErrors name text a b d p q = p ∙ sym q
 one-told AsmNotes name text a b d p q = p ∙ sym q
@@ -20,6 +19,8 @@ one-told AsmPlaces name text a b d p q = p ∙ sym q
 one-told Session name text a b d p q = p ∙ sym q
 one-told Picture name text a b d p q = absurd (false≢true d)
 one-told Marks name text a b d p q = absurd (false≢true d)
+one-told Unasm name text a b d p q = absurd (false≢true d)
+one-told Needs name text a b d p q = absurd (false≢true d)
 
 one-within : (within : Bool) (asked : Asked) (input : List ℕ) (a b : Answer) → is_defined asked.tool ≡ true → IsAnswerWithin within (IsToolAnswer asked) input a → IsAnswerWithin within (IsToolAnswer asked) input b → a ≡ b
 one-within true asked input a b d p q = one-told asked.tool asked.name input a b d p q

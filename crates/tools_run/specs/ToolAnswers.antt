@@ -7,7 +7,8 @@ use Rattle.assembly_places.specs.Places.{assembly_places}
 use Rattle.friendly_assembly.specs.PlainText.{friendly_told}
 use Rattle.program_answers.specs.Answer.{Answer}
 use Rattle.session_making.specs.Tool.{session_told}
-use Rattle.told_answers.specs.ToldAnswers.{IsToldBy}
+use Rattle.module_code.specs.ReadBack.{ReadsBack}
+use Rattle.told_answers.specs.ToldAnswers.{IsToldBy, told_answer}
 use Rattle.tools_run.specs.declared.commands.Asked.{Asked}
 use Rattle.tools_run.specs.declared.commands.Tool.{Tool}
 use Rattle.tools_run.specs.declared.commands.Tool.TheVariants.{Asm, AsmErrors, AsmNotes, AsmPlaces, Marks, Needs, Picture, Session, Unasm}
@@ -26,13 +27,23 @@ told Unasm name text = None
 told Needs name text = None
 
 -- what is given is what the definition says, where there is one
-abbrev pub Tells : Option Told → Told → Type 0
-Tells (Some t) given = given ≡ t
-Tells None given = Unit {0}
+abbrev pub IsGiven : Option Told → Told → Type 0
+IsGiven (Some t) given = given ≡ t
+IsGiven None given = Unit {0}
+
+-- What is said of what a tool gives: its definition, where it has one; and that the assembly of a module makes it again.
+abbrev pub Tells : Tool → List ℕ → List ℕ → Told → Type 0
+Tells Unasm name text given = ReadsBack text given
+Tells tool name text given = IsGiven (told tool name text) given
+
+-- an answer that says what a tool gives
+abbrev pub IsAnswerOf : Tool → List ℕ → List ℕ → Answer → Type 0
+IsAnswerOf Unasm name text a = (t : Told) × ReadsBack text t × a ≡ told_answer t
+IsAnswerOf tool name text a = IsToldBy (told tool name text) a
 
 -- an answer of a tool to a text
 abbrev pub IsToolAnswer : Asked → List ℕ → Answer → Type 0
-IsToolAnswer asked text a = IsToldBy (told asked.tool asked.name text) a
+IsToolAnswer asked text a = IsAnswerOf asked.tool asked.name text a
 
 -- whether a definition says what a tool gives
 abbrev pub is_defined : Tool → Bool

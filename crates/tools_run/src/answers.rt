@@ -4,7 +4,7 @@ ghost use Rattle.program_answers.specs.Answered.{Answered};
 ghost use Rattle.program_answers.specs.Cause.{HasFaultCause};
 ghost use Rattle.program_answers.specs.Input.{IsTextEnd};
 ghost use Rattle.tool_texts.specs.Told.{told_of};
-ghost use Rattle.tools_run.specs.ToolAnswers.{IsToolAnswer, Tells, told};
+ghost use Rattle.tools_run.specs.ToolAnswers.{IsToolAnswer, Tells};
 
 use crate::commands::{Asked, Tool};
 use assembly_errors::assembly_errors;
@@ -45,7 +45,7 @@ fn answer_text<K: Sink>(alloc: Global, asked: &Asked, text: &[u8], out: &mut K) 
 // What the tool gives of a text with this name, which its definition says, where it has one.
 fn tell(alloc: Global, tool: Tool, name: &[u8], text: &[u8]) -> Result<ToolText, AllocError>
     requires { length text.now < 2 ^ 30 }
-    ensures { IfOk result (λ t. Tells (told tool name.now text.now) (told_of t)) }
+    ensures { IfOk result (λ t. Tells tool name.now text.now (told_of t)) }
 {
     match tool {
         Tool::Asm => friendly_text(alloc, name, text),
