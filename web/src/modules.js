@@ -18,7 +18,7 @@ export function add_assembly(name) {
     if (why) { change({ notice: `${name} stays a module: ${why}.` }); return; }
     const own = free_name_of(name);
     add_file(own, text);
-    change({ notice: `${own} makes the module of ${name} again, and can be chosen as a program.` });
+    change({ notice: `${own} makes the module of ${name} again${last_word(text)}, and can be chosen as a program.` });
   });
 }
 
@@ -32,7 +32,13 @@ function why_no_program(text) {
   const hunks = text.match(/^; HUNK .*$/gm) ?? [];
   if (hunks.length !== 1) return `a program of the page has one hunk, and it has ${hunks.length || 'none'}`;
   const [, reason] = /, as words: (.*)$/.exec(hunks[0]) ?? [];
-  return reason ? `${reason}` : '';
+  return reason ?? '';
+}
+
+/** What is other in the module that assembly makes, or nothing: a compiler may put another number at the end of the global table. */
+function last_word(text) {
+  const [, last] = /^; LAST (.*)$/m.exec(text) ?? [];
+  return last ? `, but for its last word, ${last}` : '';
 }
 
 /** A name for the assembly of a module that no file has. */
