@@ -4,7 +4,7 @@ import { file_word, word } from './bundle.js';
 import { show_sheet } from './dialogs.js';
 import { make } from './elements.js';
 import { add_file, file_named, program_name } from './project.js';
-import { change } from './state.js';
+import { change, state } from './state.js';
 
 /** Whether a text begins as that of a module with a hunk. */
 export function is_module(text) {
@@ -50,11 +50,19 @@ function free_name_of(name) {
   }
 }
 
+/** The names of globals, as a word of a bundle: those of the first file NAME.set, which has lines `SET Gname number`. */
+function names_word() {
+  const table = state.project.files.find((file) => file.name.endsWith('.set'));
+  if (!table) return word('-');
+  const names = [...table.text.matchAll(/^[ \t]*SET[ \t]+G([A-Za-z0-9]+)[ \t]+([0-9]+)/gm)].map(([, name, number]) => `${number} ${name}\n`);
+  return file_word(table.name, names.join(''));
+}
+
 /** Acts on what a tool gives of a module, or says what is wrong in it. */
 async function with_answer(tool, name, act) {
   const { text } = file_named(name);
   try {
-    const given = await ask('tripos_tools', [tool], word('-') + file_word(name, text), 'the module is read');
+    const given = await ask('tripos_tools', [tool], names_word() + file_word(name, text), 'the module is read');
     if (given.status === 0) { act(given.text); return; }
     const wrong = await ask('tripos_show', ['errors'], word('module') + file_word(name, text), 'what is wrong is looked for');
     change({ notice: wrong.text.split('\n')[0] });

@@ -243,6 +243,14 @@ const ways = {
   },
 
   async 'a module read back'() {
+    const globals_by = (...paths) => {
+      try {
+        return written_by('bin/needs', ...paths);
+      } catch (error) {
+        // its status says whether one is not set
+        return error.stdout;
+      }
+    };
     await open_example('hello');
     const module = readFileSync(join(top, 'archive/queens/queens.module'), 'latin1');
     await tab.click('#new-text');
@@ -270,6 +278,21 @@ const ways = {
     await tab.click('#as-assembly');
     await tab.until("document.querySelector('.notice').textContent.includes('the text ends inside the hunk')");
     await tab.click('.notice button');
+    await set('.editor-body textarea', module);
+    await tab.click('#new-text');
+    await tab.until("document.querySelector('dialog[open] input') !== null");
+    await set('dialog[open] input', 'libhdr.set');
+    await tab.click('dialog[open] .primary');
+    await tab.until("document.querySelector('.file-tab.is-open')?.textContent.startsWith('libhdr.set')");
+    await set('.editor-body textarea', readFileSync(join(top, 'library/libhdr.set'), 'latin1'));
+    await tab.click('.file-tab [title^="queens.module"]');
+    await tab.until("!document.getElementById('of-module').hidden");
+    await tab.click('#its-globals');
+    await tab.until("document.querySelector('dialog[open] pre') !== null");
+    writeFileSync(join(folder, 'queens.module'), module);
+    same('its globals with names', await text_of('dialog[open] pre'),
+      globals_by(join(folder, 'queens.module'), 'library/libhdr.set').replace(join(folder, 'queens.module'), 'queens.module'));
+    await tab.click('dialog[open] .choices button:last-child');
   },
 
   async 'steps forth and back'() {
