@@ -1,2 +1,3 @@
+pub mod HunkWords
 pub mod Made
 pub mod ReadBack

@@ -1,11 +1,12 @@
 -- What is written of a module: of each hunk assembly that makes it again, or its words.
-use Rattle.std.specs.Prelude.{ℕ, ◌≡◌, ◌-◌, ◌==◌, if◌then◌else◌, List, [], ◌∷◌, ◌++◌, length, map, take, get_or, codes, decimal, Result, Ok}
+use Rattle.std.specs.Prelude.{ℕ, ◌≡◌, ◌+◌, ◌-◌, ◌==◌, if◌then◌else◌, List, [], ◌∷◌, ◌++◌, length, map, take, get_or, codes, decimal, Ok}
 use Rattle.std.specs.List.{AllByRecursion, flat_map}
 use Rattle.assembly.specs.AssemblyText.Assembly.{assembled}
 use Rattle.module_text.specs.Canonical.{printed}
 use Rattle.module_text.specs.declared.modules.Hunk.{Hunk}
 use Rattle.module_text.specs.declared.modules.Module.{Module}
 use Rattle.module_text.specs.ModuleOfText.{module_of}
+use Rattle.module_code.specs.HunkWords.{hunk_lines}
 use Rattle.module_code.specs.declared.parts.Form.{Form}
 use Rattle.module_code.specs.declared.parts.Form.TheVariants.{Whole, WithLast, Words}
 use Rattle.module_code.specs.declared.parts.Part.{Part}
@@ -26,7 +27,7 @@ with_last last h = record { words = take (length h.words - 1) h.words ++ last �
 abbrev pub MakesFront : List ℕ → Hunk → Type 0
 MakesFront lines h = (last : ℕ) × Makes lines (with_last last h)
 
--- the assembly in which a hunk is written makes it; of the words and the reason of one without assembly nothing is said
+-- the assembly in which a hunk is written makes it; any hunk may be written as its words, and nothing is said of the reason
 abbrev pub IsFormOf : Hunk → Form → Type 0
 IsFormOf h (Whole lines) = Makes lines.items h
 IsFormOf h (WithLast lines) = MakesFront lines.items h
@@ -36,11 +37,15 @@ IsFormOf h (Words why) = Unit {0}
 abbrev pub last_line : Hunk → List ℕ
 last_line h = codes "; LAST " ++ decimal (get_or h.words (length h.words - 1) 0) ++ codes "\n"
 
+-- the end of the line after which the words of a hunk come, with the reason
+abbrev pub reason_line : List ℕ → List ℕ
+reason_line why = codes ", as words: " ++ why ++ codes "\n"
+
 -- what is written of a hunk in a form, after these bytes
 abbrev pub IsAfter : List ℕ → Hunk → Form → List ℕ → Type 0
 IsAfter before h (Whole lines) text = text ≡ before ++ codes "\n" ++ lines.items
 IsAfter before h (WithLast lines) text = text ≡ before ++ codes "\n" ++ lines.items ++ last_line h
-IsAfter before h (Words why) text = Unit {0}
+IsAfter before h (Words why) text = text ≡ before ++ reason_line why.items ++ hunk_lines h
 
 -- the beginning of what is written of hunk n
 abbrev pub head : ℕ → List ℕ
@@ -54,8 +59,8 @@ hunk_in part = part.hunk.now
 pub record IsRight (part : Part) : Type 0 where
   -- its assembly makes the hunk
   pub form : IsFormOf (hunk_in part) part.form
-  -- the text is a line with a number, and the assembly
-  pub text : (n : ℕ) × IsAfter (head n) (hunk_in part) part.form part.text.items
+  -- the text is a line with its number, and then the assembly or the words
+  pub text : IsAfter (head part.number) (hunk_in part) part.form part.text.items
 
 -- what is written of a hunk
 abbrev pub part_bytes : Part → List ℕ
@@ -65,10 +70,17 @@ part_bytes part = part.text.items
 abbrev pub module_bytes : List Part → List ℕ
 module_bytes parts = if length parts == 0 then codes "; NO HUNKS\n" else flat_map part_bytes parts
 
+-- the numbers of hunks, from this one on
+abbrev pub numbers_from : ℕ → List Hunk → List ℕ
+numbers_from n [] = []
+numbers_from n (h ∷ hs) = n ∷ numbers_from (n + 1) hs
+
 -- hunks are written: each of them, in their order, and each right
 pub record AreParts (hs : List Hunk) (bytes : List ℕ) (parts : List Part) : Type 0 where
   -- each hunk, in their order
   pub hunks : map hunk_in parts ≡ hs
+  -- with their numbers, from 1
+  pub numbers : map (λ part. part.number) parts ≡ numbers_from 1 hs
   -- what is written of each is right
   pub right : AllByRecursion IsRight parts
   -- and that is all that is written

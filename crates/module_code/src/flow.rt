@@ -1,8 +1,10 @@
 // Which bytes of a hunk are code. It is followed from the global table, and from the names that a compiler leaves before functions, along jumps,
 // calls, and the tables of switches. All else is data.
+ghost use Rattle.module_text.specs.Canonical.{IsPrintableHunk};
+
 use crate::hunk_code::{HunkCode, Known};
 use crate::names::{FUNCTION_MARK, SECTION_MARK, name_length};
-use crate::units::{FIRST, Unit};
+use crate::units::Unit;
 use instruction_set::instruction_table::{Effect, Form};
 use module_text::Hunk;
 use std::alloc::{AllocError, Global};
@@ -25,7 +27,9 @@ impl Waiting {
 }
 
 /// A hunk, of which the code is told from the data.
-pub fn find_code(alloc: Global, hunk: &Hunk) -> Result<HunkCode<'_>, AllocError> {
+pub fn find_code(alloc: Global, hunk: &Hunk) -> Result<HunkCode<'_>, AllocError>
+    requires { IsPrintableHunk hunk.now }
+{
     let mut code = HunkCode::new(alloc, hunk)?;
     let mut waiting = Waiting {
         offsets: Vec::new(alloc),
@@ -33,11 +37,8 @@ pub fn find_code(alloc: Global, hunk: &Hunk) -> Result<HunkCode<'_>, AllocError>
     put_borders(&mut code);
     put_addresses(&mut code);
     put_names(&mut code, &mut waiting)?;
-    for k in 0..code.table.pairs.len() {
-        let last = code.table.pairs.len().saturating_sub(k + 1);
-        if let Some(pair) = code.table.pairs.as_slice().get(last).copied() {
-            waiting.visit(&code, pair.place)?;
-        }
+    for pair in code.table.pairs.as_slice().iter().rev() {
+        waiting.visit(&code, pair.place)?;
     }
     for turn in 0..usize::MAX {
         let Some(at) = waiting.offsets.as_slice().get(turn).copied() else {

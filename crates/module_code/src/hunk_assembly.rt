@@ -48,13 +48,11 @@ fn push_globals(text: &mut Vec<u8>, source: &Source) -> Result<(), AllocError> {
         push_sentence(text, &[Bytes(b":\n")])?;
     }
     let pairs = source.code.table.pairs.as_slice();
-    for k in 0..pairs.len() {
-        if let Some(pair) = pairs.get(pairs.len().saturating_sub(k + 1)) {
-            let number = Number(u64::from(pair.number));
-            push_sentence(text, &[Bytes(b"GLOBAL "), number, Bytes(b" ")])?;
-            source.labels.push_label(text, pair.place)?;
-            push_sentence(text, &[Bytes(b"\n")])?;
-        }
+    for pair in pairs.iter().rev() {
+        let number = Number(u64::from(pair.number));
+        push_sentence(text, &[Bytes(b"GLOBAL "), number, Bytes(b" ")])?;
+        source.labels.push_label(text, pair.place)?;
+        push_sentence(text, &[Bytes(b"\n")])?;
     }
     Ok(())
 }

@@ -1,5 +1,7 @@
 // The bytes of a hunk before its global table, with what they are.
-use crate::global_tables::{GlobalTable, read_table, word_at};
+ghost use Rattle.module_text.specs.Canonical.{IsPrintableHunk};
+
+use crate::global_tables::{GlobalTable, read_table};
 use crate::units::{FIRST, Place, Unit};
 use assembly::module_listing::HunkBytes;
 use instruction_set::Code;
@@ -8,14 +10,13 @@ use instruction_set::operand_forms::{Instr, decode, even_below, half_offset};
 use module_text::Hunk;
 use std::alloc::{AllocError, Global};
 
-/// More words than any text has that is read.
-const TOO_MANY: usize = 1 << 28;
-
 /// The bytes of a hunk before its global table, with what they are.
 #[derive(Drop)]
 pub struct HunkCode<'a> {
     /// The hunk.
     pub hunk: &'a Hunk,
+    /// Its bytes.
+    bytes: HunkBytes<'a>,
     /// Its global table.
     pub table: GlobalTable,
     /// What is known of each byte, and of the end.
@@ -33,12 +34,10 @@ pub struct Known {
 
 impl<'a> HunkCode<'a> {
     /// A hunk of whose bytes nothing is known.
-    pub fn new(alloc: Global, hunk: &'a Hunk) -> Result<HunkCode<'a>, AllocError> {
-        let words = hunk.words.as_slice();
-        if words.len() >= TOO_MANY {
-            return Err(AllocError);
-        }
-        let table = read_table(alloc, words)?;
+    pub fn new(alloc: Global, hunk: &'a Hunk) -> Result<HunkCode<'a>, AllocError>
+        requires { IsPrintableHunk hunk.now }
+    {
+        let table = read_table(alloc, hunk.words.as_slice())?;
         let mut places = Vec::new(alloc);
         for word in 0..table.begin {
             for byte in 0..4 {
@@ -48,6 +47,7 @@ impl<'a> HunkCode<'a> {
         places.push(Place::new())?;
         Ok(HunkCode {
             hunk,
+            bytes: HunkBytes::new(hunk),
             table,
             places,
         })
@@ -65,8 +65,7 @@ impl<'a> HunkCode<'a> {
 
     /// A byte of the hunk; 0 after its end.
     pub fn byte(&self, at: u32) -> u8 {
-        let word = word_at(self.hunk.words.as_slice(), (at / 4) as usize);
-        word.to_le_bytes()[(at % 4) as usize]
+        self.bytes.byte(at).unwrap_or(0)
     }
 
     /// The halfword at an offset.
@@ -88,12 +87,17 @@ impl<'a> HunkCode<'a> {
 
     /// The instruction at an offset, if its bytes are one.
     pub fn instruction(&self, at: u32) -> Option<Known> {
-        if self.hunk.words.as_slice().len() >= TOO_MANY {
-            return None;
-        }
-        let instr = decode(&HunkBytes::new(self.hunk), at).ok()?;
+        let instr = decode(&self.bytes, at).ok()?;
         let row = row(instr.byte)?;
         Some(Known { instr, row })
+    }
+
+    /// The instruction of the code at an offset, if one begins there.
+    pub fn code_at(&self, at: u32) -> Option<Known> {
+        if !self.is_code(at) {
+            return None;
+        }
+        self.instruction(at)
     }
 
     /// The offset of the halfword by which an instruction of an indirect form leads on; `None` for other forms.

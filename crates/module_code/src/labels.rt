@@ -117,10 +117,7 @@ fn want_target(code: &mut HunkCode, labels: &mut Labels, at: u32) {
 
 /// What an instruction names by a label; `None` where it names nothing so, and where no instruction of the code is there.
 pub fn target_at(code: &HunkCode, at: u32) -> Option<Target> {
-    if !code.is_code(at) {
-        return None;
-    }
-    let known = code.instruction(at)?;
+    let known = code.code_at(at)?;
     match known.row.form {
         Form::Indirect => Some(Target::Lead(code.lead_of(at, known.row)?)),
         Form::Relative => Some(Target::Offset(known.instr.target)),
@@ -161,11 +158,8 @@ fn name_labels(
             name_function(alloc, code, labels, &mut taken, at)?;
         }
     }
-    for k in 0..code.table.pairs.len() {
-        let last = code.table.pairs.len().saturating_sub(k + 1);
-        if let Some(pair) = code.table.pairs.as_slice().get(last).copied() {
-            name_global(alloc, names, labels, &mut taken, pair)?;
-        }
+    for pair in code.table.pairs.as_slice().iter().rev() {
+        name_global(alloc, names, labels, &mut taken, *pair)?;
     }
     Ok(())
 }

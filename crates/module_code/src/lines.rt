@@ -59,20 +59,12 @@ impl<'a> Source<'a> {
 
     // The place whose word address an instruction takes, if one is here that does.
     fn string_place(&self, at: u32) -> Option<u32> {
-        let known = self.code_at(at)?;
+        let known = self.code.code_at(at)?;
         match (known.row.effect, target_at(&self.code, at)?) {
             (Effect::LoadTargetWord, Target::Lead(lead)) => Some(self.code.lead(lead)),
             (Effect::LoadTargetWord, Target::Offset(to)) => Some(to),
             _ => None,
         }
-    }
-
-    // The instruction of the code at an offset.
-    fn code_at(&self, at: u32) -> Option<Known> {
-        if !self.code.is_code(at) {
-            return None;
-        }
-        self.code.instruction(at)
     }
 
     /// Adds the lines of all bytes before the global table.
@@ -137,7 +129,7 @@ impl<'a> Source<'a> {
         text: &mut Vec<u8>,
         at: u32,
     ) -> Result<(), AllocError> {
-        let Some(known) = self.code_at(at) else {
+        let Some(known) = self.code.code_at(at) else {
             return Ok(());
         };
         let name = Bytes(known.row.name.as_bytes());

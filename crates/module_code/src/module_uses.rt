@@ -1,10 +1,13 @@
 // Which globals a module uses, and how.
+ghost use Rattle.std.specs.List.{AllByRecursion};
+ghost use Rattle.module_text.specs.Canonical.{IsPrintableHunk};
+
 use crate::flow::find_code;
 use crate::global_uses::{Use, use_of};
-use crate::hunk_code::{HunkCode, Known};
+use crate::hunk_code::HunkCode;
 use crate::units::FIRST;
 use instruction_set::instruction_table::Effect;
-use module_text::{Hunk, Module};
+use module_text::Hunk;
 use std::alloc::{AllocError, Global};
 use std::collections::BTreeSet;
 
@@ -61,7 +64,9 @@ impl ModuleUses {
     }
 
     // The globals that a hunk uses.
-    fn note_hunk(&mut self, alloc: Global, hunk: &Hunk) -> Result<(), AllocError> {
+    fn note_hunk(&mut self, alloc: Global, hunk: &Hunk) -> Result<(), AllocError>
+        requires { IsPrintableHunk hunk.now }
+    {
         let code = find_code(alloc, hunk)?;
         for pair in code.table.pairs.as_slice() {
             if pair.sets() {
@@ -77,10 +82,12 @@ impl ModuleUses {
     }
 }
 
-/// The globals that a module uses.
-pub fn uses_of(alloc: Global, module: &Module) -> Result<ModuleUses, AllocError> {
+/// The globals that the hunks of a module use.
+pub fn uses_of(alloc: Global, hunks: &[Hunk]) -> Result<ModuleUses, AllocError>
+    requires { AllByRecursion IsPrintableHunk hunks.now }
+{
     let mut uses = ModuleUses::new(alloc);
-    for hunk in module.hunks.as_slice() {
+    for hunk in hunks {
         uses.note_hunk(alloc, hunk)?;
     }
     Ok(uses)
@@ -88,7 +95,7 @@ pub fn uses_of(alloc: Global, module: &Module) -> Result<ModuleUses, AllocError>
 
 // The use of a global at an offset.
 fn use_at(code: &HunkCode, at: u32) -> Option<(Use, u32)> {
-    let known = code_at(code, at)?;
+    let known = code.code_at(at)?;
     let how = use_of(known.row.effect)?;
     let is_called = matches!(known.row.effect, Effect::LoadG)
         && calls_what_is_loaded(code, at.saturating_add(known.instr.length));
@@ -98,15 +105,8 @@ fn use_at(code: &HunkCode, at: u32) -> Option<(Use, u32)> {
 
 // Whether the instruction here calls what the one before it has loaded.
 fn calls_what_is_loaded(code: &HunkCode, at: u32) -> bool {
-    match code_at(code, at) {
+    match code.code_at(at) {
         Some(known) => matches!(known.row.effect, Effect::Call),
         None => false,
     }
-}
-
-fn code_at(code: &HunkCode, at: u32) -> Option<Known> {
-    if !code.is_code(at) {
-        return None;
-    }
-    code.instruction(at)
 }

@@ -46,7 +46,7 @@ fn needs_text(alloc: Global, bundle: &[u8]) -> Result<Vec<u8>, NoAnswer> {
     let mut uses = Vec::new(alloc);
     for (i, named) in request.modules.iter().enumerate() {
         let module = module_of(alloc, i, named.text)?;
-        uses.push(uses_of(alloc, &module)?)?;
+        uses.push(uses_of(alloc, module.hunks.as_slice())?)?;
     }
     let program = Program {
         names: names_in(alloc, request.names)?,

@@ -15,6 +15,8 @@ pub enum Form {
 /// What is written of a hunk.
 #[derive(Drop)]
 pub struct Part<'a> {
+    /// The number of the hunk, from 1.
+    pub number: u64,
     /// The hunk.
     pub hunk: &'a Hunk,
     /// The form in which it is written.

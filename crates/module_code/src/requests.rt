@@ -1,14 +1,15 @@
 // What bundles ask for, and what is told where they have no answer.
-ghost use Rattle.std.specs.Prelude.{◌≡◌, true, Ok, Some, IfOk};
+ghost use Rattle.std.specs.Prelude.{◌≡◌, ℕ, List, true, Ok, Some, option_map, IfErr, IfOk};
 ghost use Rattle.module_text.specs.Canonical.{IsPrintable};
 ghost use Rattle.module_text.specs.ModuleOfText.{module_of};
 ghost use Rattle.tool_bundles.specs.Bundles.{bundle_of};
+ghost use Rattle.module_code.specs.ReadBack.{HasCause, IsUnread, IsWrong, asked_by, asked_in, names_text};
 
 use module_text::{Module, TextEnd, read_module};
 use std::alloc::{AllocError, AllocFailed, Global};
 use tool_bundles::{BundleEnd, Entry, read_bundle};
 use tool_texts::Said::{Bytes, Number};
-use tool_texts::{Said, ToolText, push_sentence};
+use tool_texts::{Lent, Said, ToolText, push_sentence};
 
 /// A text of so many bytes, or more, is not read: it gets no memory.
 const TOO_LONG: usize = 1 << 30;
@@ -71,6 +72,38 @@ pub struct Request<'a> {
     pub modules: Vec<NamedModule<'a>>,
 }
 
+/// One module that is asked for.
+#[derive(Drop)]
+pub struct Asked<'a> {
+    /// The names of globals, a line each.
+    pub names: Lent<'a>,
+    /// The text of the module.
+    pub text: Lent<'a>,
+}
+
+/// The text of the one module that a bundle asks for, and that of the names.
+pub fn asked_of(alloc: Global, bundle: &[u8]) -> Result<Asked<'_>, NoAnswer>
+    ensures value { IfOk result (λ asked. asked_in bundle.now ≡ Some asked.text) }
+    ensures cause { IfErr result (HasCause bundle.now) }
+{
+    let entries = entries_of(alloc, bundle)?;
+    asked_by(entries.as_slice()).ok_or(NoAnswer::NoRequest)
+}
+
+// The same of words.
+fn asked_by<'a>(entries: &[Entry<'a>]) -> Option<Asked<'a>>
+    ensures { option_map (λ asked. asked.text) result ≡ asked_by entries.now }
+{
+    match entries {
+        [names, module] => {
+            let text = module.file()?;
+            let names = names_of(names)?;
+            Some(Asked { names, text })
+        }
+        _ => None,
+    }
+}
+
 /// What a bundle asks for. Its first word is a file of names, or `-`; each other one is a module.
 pub fn request_of(alloc: Global, bundle: &[u8]) -> Result<Request<'_>, NoAnswer> {
     let entries = entries_of(alloc, bundle)?;
@@ -78,7 +111,7 @@ pub fn request_of(alloc: Global, bundle: &[u8]) -> Result<Request<'_>, NoAnswer>
         return Err(NoAnswer::NoRequest);
     };
     let mut request = Request {
-        names: names_of(first).ok_or(NoAnswer::NoRequest)?,
+        names: names_of(first).ok_or(NoAnswer::NoRequest)?.bytes(),
         modules: Vec::new(alloc),
     };
     for entry in others {
@@ -91,9 +124,10 @@ pub fn request_of(alloc: Global, bundle: &[u8]) -> Result<Request<'_>, NoAnswer>
     Ok(request)
 }
 
-/// The words of a bundle.
-pub fn entries_of(alloc: Global, bundle: &[u8]) -> Result<Vec<Entry<'_>>, NoAnswer>
-    ensures { IfOk result (λ v. bundle_of bundle.now ≡ Some v.items) }
+// The words of a bundle.
+fn entries_of(alloc: Global, bundle: &[u8]) -> Result<Vec<Entry<'_>>, NoAnswer>
+    ensures value { IfOk result (λ v. bundle_of bundle.now ≡ Some v.items) }
+    ensures cause { IfErr result (HasCause bundle.now) }
 {
     match read_bundle(alloc, bundle) {
         Ok(entries) => Ok(entries),
@@ -102,18 +136,21 @@ pub fn entries_of(alloc: Global, bundle: &[u8]) -> Result<Vec<Entry<'_>>, NoAnsw
     }
 }
 
-/// The text of the names: of the file that a word names, or nothing where the word is `-`; `None` where it is neither.
-pub fn names_of<'a>(entry: &Entry<'a>) -> Option<&'a [u8]> {
+// The text of the names: of the file that a word names, or nothing where the word is `-`; `None` where it is neither.
+fn names_of<'a>(entry: &Entry<'a>) -> Option<Lent<'a>>
+    ensures { result ≡ names_text entry.now }
+{
     if entry.word.bytes() == b"-".as_slice() {
-        return Some(&[]);
+        return Some(Lent::new(&[]));
     }
-    Some(entry.file()?.bytes())
+    entry.file()
 }
 
 /// The module of a text, which is this one of those that are asked for.
 pub fn module_of(alloc: Global, module: usize, text: &[u8]) -> Result<Module, NoAnswer>
     ensures value { IfOk result (λ m. module_of text.now ≡ Ok m) }
     ensures printable { IfOk result IsPrintable }
+    ensures cause { IfErr result (IsUnread text.now) }
 {
     if text.len() >= TOO_LONG {
         return Err(NoAnswer::WantMemory);
@@ -127,7 +164,8 @@ pub fn module_of(alloc: Global, module: usize, text: &[u8]) -> Result<Module, No
 
 /// What the tool of a script gives where a bundle has no answer. `AllocError` comes where memory could not be had, before or now.
 pub fn told_end(alloc: Global, script: &[u8], end: NoAnswer) -> Result<ToolText, AllocError>
-    ensures { IfOk result (λ t. t.is_wrong ≡ true) }
+    ensures wrong { IfOk result (λ t. t.is_wrong ≡ true) }
+    ensures cause { (bundle : List ℕ) → HasCause bundle end → IfOk result (λ _. IsWrong bundle) }
 {
     match end {
         NoAnswer::NoRequest => wrong(

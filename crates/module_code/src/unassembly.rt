@@ -1,17 +1,17 @@
 // The assembly of a module.
-ghost use Rattle.std.specs.Prelude.{◌≡◌, ◌++◌, map, IfOk, OnOk};
+ghost use Rattle.std.specs.Prelude.{◌≡◌, ◌++◌, map, IfErr, IfOk, OnOk};
 ghost use Rattle.std.specs.List.{AllByRecursion, flat_map};
 ghost use Rattle.module_text.specs.Canonical.{IsPrintableHunk};
-ghost use Rattle.module_code.specs.Made.{AreWritten, IsAfter, IsAssemblyOf, IsRight, hunk_in, last_line, module_bytes, part_bytes};
-ghost use Rattle.module_code.specs.ReadBack.{IsRead, ReadsBack};
+ghost use Rattle.module_code.specs.Made.{AreWritten, IsAfter, IsAssemblyOf, IsRight, hunk_in, last_line, module_bytes, numbers_from, part_bytes, reason_line};
+ghost use Rattle.module_code.specs.ReadBack.{HasCause, IsRead, IsUnread, ReadsBack};
 ghost use Rattle.tool_texts.specs.Told.{told_of};
 
 use crate::global_tables::word_at;
 use crate::hunk_assembly::form_of;
-use crate::hunk_words::push_words;
+use crate::hunk_words::push_hunk;
 use crate::known_names::{Names, names_in};
 use crate::parts::{Form, Part};
-use crate::requests::{NoAnswer, entries_of, module_of, names_of, told_end};
+use crate::requests::{NoAnswer, asked_of, module_of, told_end};
 use module_text::Hunk;
 use std::alloc::{AllocError, Global};
 use tool_texts::Said::{Bytes, Number};
@@ -31,21 +31,19 @@ pub fn module_assembly(alloc: Global, bundle: &[u8]) -> Result<ToolText, AllocEr
 }
 
 // The assembly of the module of a bundle.
+#[tactic(auto, using(crate::proofs::Causes::has_cause))]
 fn assembly_text(alloc: Global, bundle: &[u8]) -> Result<Vec<u8>, NoAnswer>
-    ensures { IfOk result (λ v. IsRead bundle.now v.items) }
+    ensures value { IfOk result (λ v. IsRead bundle.now v.items) }
+    ensures cause { IfErr result (HasCause bundle.now) }
 {
-    let entries = entries_of(alloc, bundle)?;
-    let [names, module] = entries.as_slice() else {
-        return Err(NoAnswer::NoRequest);
-    };
-    let text = module.file().ok_or(NoAnswer::NoRequest)?;
-    let names = names_of(names).ok_or(NoAnswer::NoRequest)?;
-    written_text(alloc, text.bytes(), names)
+    let asked = asked_of(alloc, bundle)?;
+    written_text(alloc, asked.text.bytes(), asked.names.bytes())
 }
 
 // The assembly of the module of a text, where these lines are the names of globals.
 fn written_text(alloc: Global, text: &[u8], names: &[u8]) -> Result<Vec<u8>, NoAnswer>
-    ensures { IfOk result (λ v. IsAssemblyOf text.now v.items) }
+    ensures value { IfOk result (λ v. IsAssemblyOf text.now v.items) }
+    ensures cause { IfErr result (IsUnread text.now) }
 {
     let module = module_of(alloc, 0, text)?;
     let names = names_in(alloc, names)?;
@@ -69,11 +67,13 @@ fn parts_of<'a>(
 ) -> Result<Vec<Part<'a>>, AllocError>
     requires { AllByRecursion IsPrintableHunk hunks.now }
     ensures hunks { IfOk result (λ parts. map hunk_in parts.items ≡ hunks.now) }
+    ensures numbers { IfOk result
+        (λ parts. map (λ part. part.number) parts.items ≡ numbers_from 1 hunks.now) }
     ensures right { IfOk result (λ parts. AllByRecursion IsRight parts.items) }
 {
     let mut parts = Vec::new(alloc);
     for hunk in hunks {
-        let number = (parts.len() as u64).saturating_add(1);
+        let number = parts.len() as u64 + 1;
         parts.push(part_of(alloc, number, hunk, names)?)?;
     }
     Ok(parts)
@@ -88,13 +88,19 @@ fn part_of<'a>(
 ) -> Result<Part<'a>, AllocError>
     requires { IsPrintableHunk hunk.now }
     ensures hunk { IfOk result (λ part. hunk_in part ≡ hunk.now) }
+    ensures number { IfOk result (λ part. part.number ≡ number) }
     ensures right { IfOk result IsRight }
 {
     let form = form_of(alloc, hunk, names)?;
     let mut text = Vec::new(alloc);
     push_sentence(&mut text, &[Bytes(b"; HUNK "), Number(number)])?;
     push_form(&mut text, hunk, &form)?;
-    Ok(Part { hunk, form, text })
+    Ok(Part {
+        number,
+        hunk,
+        form,
+        text,
+    })
 }
 
 // Adds what is written of a hunk in this form.
@@ -108,11 +114,17 @@ fn push_form(text: &mut Vec<u8>, hunk: &Hunk, form: &Form) -> Result<(), AllocEr
             push_last(text, hunk)
         }
         Form::Words(why) => {
-            let why = Bytes(why.as_slice());
-            push_sentence(text, &[Bytes(b", as words: "), why, Bytes(b"\n")])?;
-            push_words(text, hunk)
+            push_reason(text, why.as_slice())?;
+            push_hunk(text, hunk)
         }
     }
+}
+
+// Adds the reason why a hunk is written as words.
+fn push_reason(text: &mut Vec<u8>, why: &[u8]) -> Result<(), AllocError>
+    ensures { OnOk result (text.new.items ≡ text.old.items ++ reason_line why.now) }
+{
+    push_sentence(text, &[Bytes(b", as words: "), Bytes(why), Bytes(b"\n")])
 }
 
 // Adds the line with the last word of a hunk.
