@@ -9,7 +9,7 @@ use Rattle.tools_run.specs.ToolAnswers.{HasDefinition, IsAnswerOf, IsToolAnswer,
 use Rattle.tools_run.specs.Words.{asked_of}
 use Rattle.tools_run.specs.declared.commands.Asked.{Asked}
 use Rattle.tools_run.specs.declared.commands.Tool.{Tool}
-use Rattle.tools_run.specs.declared.commands.Tool.TheVariants.{Asm, AsmErrors, AsmNotes, AsmPlaces, Marks, Needs, Picture, Session, Unasm}
+use Rattle.tools_run.specs.declared.commands.Tool.TheVariants.{Asm, AsmErrors, AsmNotes, AsmPlaces, Marks, Needs, Partings, Picture, Session, Unasm}
 
 one-told : (tool : Tool) (name text : List ℕ) (a b : Answer) → is_defined tool ≡ true → IsAnswerOf tool name text a → IsAnswerOf tool name text b → a ≡ b
 one-told Asm name text a b d p q = p ∙ sym q
@@ -21,6 +21,7 @@ one-told Picture name text a b d p q = absurd (false≢true d)
 one-told Marks name text a b d p q = absurd (false≢true d)
 one-told Unasm name text a b d p q = absurd (false≢true d)
 one-told Needs name text a b d p q = absurd (false≢true d)
+one-told Partings name text a b d p q = absurd (false≢true d)
 
 one-within : (within : Bool) (asked : Asked) (input : List ℕ) (a b : Answer) → is_defined asked.tool ≡ true → IsAnswerWithin within (IsToolAnswer asked) input a → IsAnswerWithin within (IsToolAnswer asked) input b → a ≡ b
 one-within true asked input a b d p q = one-told asked.tool asked.name input a b d p q

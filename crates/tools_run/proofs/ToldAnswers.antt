@@ -4,7 +4,7 @@ use Rattle.told_answers.specs.ToldAnswers.{IsToldBy, told_answer}
 use Rattle.tool_texts.specs.Told.{Told}
 use Rattle.tools_run.specs.ToolAnswers.{IsAnswerOf, IsGiven, Tells, told}
 use Rattle.tools_run.specs.declared.commands.Tool.{Tool}
-use Rattle.tools_run.specs.declared.commands.Tool.TheVariants.{Asm, AsmErrors, AsmNotes, AsmPlaces, Marks, Needs, Picture, Session, Unasm}
+use Rattle.tools_run.specs.declared.commands.Tool.TheVariants.{Asm, AsmErrors, AsmNotes, AsmPlaces, Marks, Needs, Partings, Picture, Session, Unasm}
 
 given-by : (told : Option Told) (given : Told) → IsGiven told given → IsToldBy told (told_answer given)
 given-by None given tells = (given, refl)
@@ -20,4 +20,5 @@ told-by Session name text given tells = given-by (told Session name text) given 
 told-by Picture name text given tells = (given, refl)
 told-by Marks name text given tells = (given, refl)
 told-by Needs name text given tells = (given, refl)
+told-by Partings name text given tells = (given, refl)
 told-by Unasm name text given tells = (given, tells, refl)

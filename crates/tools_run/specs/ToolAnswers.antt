@@ -11,10 +11,10 @@ use Rattle.module_code.specs.ReadBack.{ReadsBack}
 use Rattle.told_answers.specs.ToldAnswers.{IsToldBy, told_answer}
 use Rattle.tools_run.specs.declared.commands.Asked.{Asked}
 use Rattle.tools_run.specs.declared.commands.Tool.{Tool}
-use Rattle.tools_run.specs.declared.commands.Tool.TheVariants.{Asm, AsmErrors, AsmNotes, AsmPlaces, Marks, Needs, Picture, Session, Unasm}
+use Rattle.tools_run.specs.declared.commands.Tool.TheVariants.{Asm, AsmErrors, AsmNotes, AsmPlaces, Marks, Needs, Partings, Picture, Session, Unasm}
 
--- what a tool gives of a text with this name, where a definition says it: a picture is drawn as it is, marks are told as they are, and so is what a
--- module is read back as
+-- what a tool gives of a text with this name, where a definition says it: a picture is drawn as it is, marks are told as they are, and so are what a
+-- module is read back as and where two runs part
 abbrev pub told : Tool → List ℕ → List ℕ → Option Told
 told Asm name text = Some (friendly_told name text)
 told AsmErrors name text = Some (assembly_errors name text)
@@ -25,6 +25,7 @@ told Picture name text = None
 told Marks name text = None
 told Unasm name text = None
 told Needs name text = None
+told Partings name text = None
 
 -- what is given is what the definition says, where there is one
 abbrev pub IsGiven : Option Told → Told → Type 0
@@ -51,6 +52,7 @@ is_defined Picture = false
 is_defined Marks = false
 is_defined Unasm = false
 is_defined Needs = false
+is_defined Partings = false
 is_defined tool = true
 
 -- words ask for no tool, or for one whose definition says what it gives

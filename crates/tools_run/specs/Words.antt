@@ -4,7 +4,7 @@ use Rattle.std.specs.Option.{option_map}
 use Rattle.std.specs.Str.{bytes_eq}
 use Rattle.tools_run.specs.declared.commands.Asked.{Asked}
 use Rattle.tools_run.specs.declared.commands.Tool.{Tool}
-use Rattle.tools_run.specs.declared.commands.Tool.TheVariants.{Asm, AsmErrors, AsmNotes, AsmPlaces, Marks, Needs, Picture, Session, Unasm}
+use Rattle.tools_run.specs.declared.commands.Tool.TheVariants.{Asm, AsmErrors, AsmNotes, AsmPlaces, Marks, Needs, Partings, Picture, Session, Unasm}
 
 -- the tool that a word is, if it is one
 abbrev pub tool_named : List ℕ → Option Tool
@@ -18,6 +18,7 @@ tool_named word =
     if bytes_eq word (codes "marks") then Some Marks else
     if bytes_eq word (codes "unasm") then Some Unasm else
     if bytes_eq word (codes "needs") then Some Needs else
+    if bytes_eq word (codes "partings") then Some Partings else
     None
 
 -- a tool, with a name of its input
@@ -32,4 +33,4 @@ asked_of _ = None
 
 -- what is said where the words ask for nothing
 abbrev pub usage_text : List ℕ
-usage_text = codes "* usage: tripos_tools TOOL or TOOL NAME, where TOOL is asm, asm-errors, asm-notes, asm-places, session, picture, marks, unasm or needs\n"
+usage_text = codes "* usage: tripos_tools TOOL or TOOL NAME, where TOOL is asm, asm-errors, asm-notes, asm-places, session, picture, marks, unasm, needs or partings\n"

@@ -15,6 +15,7 @@ use friendly_assembly::friendly_text;
 use lab_marks::marks_text;
 use module_code::{global_needs, module_assembly};
 use program_answers::{Status, TextAnswers};
+use run_partings::run_partings;
 use run_pictures::run_picture;
 use session_making::make_session;
 use std::alloc::{AllocError, Global};
@@ -57,5 +58,6 @@ fn tell(alloc: Global, tool: Tool, name: &[u8], text: &[u8]) -> Result<ToolText,
         Tool::Marks => marks_text(alloc, text),
         Tool::Unasm => module_assembly(alloc, text),
         Tool::Needs => global_needs(alloc, text),
+        Tool::Partings => run_partings(alloc, text),
     }
 }

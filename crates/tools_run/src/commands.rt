@@ -25,6 +25,8 @@ pub enum Tool {
     Unasm,
     /// Which globals modules set and use, and which of those that are called nobody sets.
     Needs,
+    /// Where two runs part, by their logs.
+    Partings,
 }
 
 /// What is asked for: a tool, and how its input is called.
@@ -72,6 +74,7 @@ fn tool_named(word: &str) -> Option<Tool>
         "marks" => Some(Tool::Marks),
         "unasm" => Some(Tool::Unasm),
         "needs" => Some(Tool::Needs),
+        "partings" => Some(Tool::Partings),
         _ => None,
     }
 }

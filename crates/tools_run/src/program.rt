@@ -50,6 +50,6 @@ fn write_usage<K: Sink>(out: &mut K) -> Result<(), SinkFault>
 {
     write_text(
         out,
-        b"* usage: tripos_tools TOOL or TOOL NAME, where TOOL is asm, asm-errors, asm-notes, asm-places, session, picture, marks, unasm or needs\n",
+        b"* usage: tripos_tools TOOL or TOOL NAME, where TOOL is asm, asm-errors, asm-notes, asm-places, session, picture, marks, unasm, needs or partings\n",
     )
 }
